@@ -1,0 +1,12 @@
+//! The tokens of a Lua script, with the places where they stand.
+#![tactic(auto)]
+
+mod place;
+mod sign;
+mod token;
+mod word;
+
+pub use place::Place;
+pub use sign::Sign;
+pub use token::{Lexeme, Token};
+pub use word::Word;

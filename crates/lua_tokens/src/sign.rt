@@ -1,0 +1,40 @@
+//! Operators and punctuation.
+
+/// The other tokens of Lua (manual, section 3.1): `+ - * / % ^ # & ~ | << >> // == ~= <= >= < > = ( ) { } [ ] :: ; : , .
+/// .. ...`, in this order.
+#[derive(Clone, Copy, Debug, PartialEq, Eq)]
+pub enum Sign {
+    Plus,
+    Minus,
+    Star,
+    Slash,
+    Percent,
+    Caret,
+    Hash,
+    Amp,
+    Tilde,
+    Pipe,
+    ShiftLeft,
+    ShiftRight,
+    SlashSlash,
+    EqualEqual,
+    NotEqual,
+    LessEqual,
+    GreaterEqual,
+    Less,
+    Greater,
+    Equal,
+    OpenParen,
+    CloseParen,
+    OpenBrace,
+    CloseBrace,
+    OpenBracket,
+    CloseBracket,
+    ColonColon,
+    Semicolon,
+    Colon,
+    Comma,
+    Dot,
+    DotDot,
+    DotDotDot,
+}

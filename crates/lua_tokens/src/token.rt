@@ -1,0 +1,25 @@
+//! What a token is, and where it stands.
+
+use crate::place::Place;
+use crate::sign::Sign;
+use crate::word::Word;
+use lanes_arena::Bytes;
+
+/// What a token is. A text has its escapes and its line ends already turned into bytes, and `End` stands behind the last
+/// byte of a script.
+#[derive(Debug, Drop, PartialEq, Eq)]
+pub enum Lexeme {
+    Name(Bytes),
+    Int(i64),
+    Text(Bytes),
+    Word(Word),
+    Sign(Sign),
+    End,
+}
+
+/// A token, with the place of its first byte.
+#[derive(Debug, Drop, PartialEq, Eq)]
+pub struct Token {
+    pub what: Lexeme,
+    pub place: Place,
+}
