@@ -1,0 +1,4 @@
+pub mod ContentLemmas
+pub mod ReadyLemmas
+pub mod ServingLemmas
+mod Rows

@@ -1,0 +1,164 @@
+//! Each call once, with ample memory.
+ghost use Rattle.std.specs.Prelude.{◌≡◌, true, IfOk};
+ghost use Rattle.linda_core.specs.SequentialLinda.{is_carried_out};
+
+use crate::{BankCall, Ending, Item, Key, Linda, LindaOp, LindaReply, OpFault, check_op};
+use lanes_arena::{Bytes, Memory, Row};
+use std::alloc::Global;
+
+fn text_key(alloc: Global, text: &[u8]) -> Result<Key, Memory> {
+    Ok(Key::Text(Bytes::of(alloc, text)?))
+}
+
+fn send(alloc: Global, key: &[u8], number: i64) -> Result<LindaOp, Memory>
+    ensures { IfOk result (λ op. is_carried_out op ≡ true) }
+{
+    Ok(LindaOp::Send {
+        key: text_key(alloc, key)?,
+        values: Row::of(vec![in alloc; Item::Int(number)]?),
+    })
+}
+
+fn receive(alloc: Global, key: &[u8]) -> Result<LindaOp, Memory>
+    ensures { IfOk result (λ op. is_carried_out op ≡ true) }
+{
+    Ok(LindaOp::Receive {
+        keys: Row::of(vec![in alloc; text_key(alloc, key)?]?),
+    })
+}
+
+fn first_of(reply: &LindaReply) -> Option<i64> {
+    match reply {
+        LindaReply::Got { values, .. } => match values.as_slice() {
+            [Item::Int(number)] => Some(*number),
+            _ => None,
+        },
+        _ => None,
+    }
+}
+
+#[test]
+fn serves_in_order(rt: HostRuntime) -> Result<(), Memory> {
+    let alloc = rt.alloc();
+    let mut linda = Linda::new(alloc);
+    for (key, number) in [(b"k", 1), (b"x", 2), (b"k", 3)] {
+        let op = send(alloc, key, number)?;
+        assert!(rt; linda.ready(&op));
+        let room = linda.reserve(alloc, &op)?;
+        let reply = linda.apply(&op, Ending::Served, room);
+        assert!(rt; matches!(reply, LindaReply::Sent));
+    }
+    for (key, wanted) in [(b"k", 1), (b"k", 3), (b"x", 2)] {
+        let op = receive(alloc, key)?;
+        assert!(rt; linda.ready(&op));
+        let room = linda.reserve(alloc, &op)?;
+        let reply = linda.apply(&op, Ending::Served, room);
+        assert_eq!(rt; first_of(&reply), Some(wanted));
+    }
+    let op = receive(alloc, b"k")?;
+    assert!(rt; !linda.ready(&op));
+    let room = linda.reserve(alloc, &op)?;
+    let reply = linda.apply(&op, Ending::GaveUp, room);
+    assert!(rt; matches!(reply, LindaReply::Short));
+    let room = linda.reserve(alloc, &op)?;
+    let reply = linda.apply(&op, Ending::Withdrawn, room);
+    assert!(rt; matches!(reply, LindaReply::Withdrawn));
+    Ok(())
+}
+
+#[test]
+fn refuses_unlawful_operations(rt: HostRuntime) -> Result<(), Memory> {
+    let alloc = rt.alloc();
+    let key = |number: i64| Key::Int(number);
+    let no_values = LindaOp::Send {
+        key: key(1),
+        values: Row::of(Vec::new(alloc)),
+    };
+    let no_keys = LindaOp::Receive {
+        keys: Row::of(Vec::new(alloc)),
+    };
+    assert_eq!(rt; check_op(&no_values), Err(OpFault::NoData));
+    assert_eq!(rt; check_op(&no_keys), Err(OpFault::BadKey));
+    for (min, max, wanted) in [
+        (0, 1, Err(OpFault::BadCount)),
+        (3, 2, Err(OpFault::BadCount)),
+        (2, 2, Ok(())),
+    ] {
+        let batch = LindaOp::Batch {
+            key: key(1),
+            min,
+            max,
+        };
+        assert_eq!(rt; check_op(&batch), wanted);
+    }
+    for (count, wanted) in [(0, Err(OpFault::BadCount)), (1, Ok(()))] {
+        let get = LindaOp::Get { key: key(1), count };
+        assert_eq!(rt; check_op(&get), wanted);
+    }
+    Ok(())
+}
+
+fn each_op(alloc: Global) -> Result<Vec<LindaOp>, Memory> {
+    Ok(vec![in alloc;
+        send(alloc, b"k", 5)?,
+        receive(alloc, b"k")?,
+        LindaOp::Batch {
+            key: Key::Bool(true),
+            min: 1,
+            max: 2
+        },
+        LindaOp::Limit {
+            key: Key::Int(-3),
+            limit: Some(4)
+        },
+        LindaOp::Set {
+            key: Key::Bool(false),
+            values: Row::of(vec![in alloc; Item::Text(Bytes::of(alloc, b"text")?)]?),
+        },
+        LindaOp::Get {
+            key: Key::Int(9),
+            count: 6
+        },
+        LindaOp::Count {
+            keys: Row::of(vec![in alloc; Key::Int(1), text_key(alloc, b"z")?]?)
+        },
+    ]?)
+}
+
+fn each_reply(alloc: Global) -> Result<Vec<LindaReply>, Memory> {
+    Ok(vec![in alloc;
+        LindaReply::Sent,
+        LindaReply::Full,
+        LindaReply::Got {
+            key: text_key(alloc, b"k")?,
+            values: Row::of(vec![in alloc; Item::Int(7)]?),
+        },
+        LindaReply::Short,
+        LindaReply::Values(Row::of(vec![in alloc; Item::Text(Bytes::of(alloc, b"v")?)]?)),
+        LindaReply::Room(true),
+        LindaReply::Counts(Row::of(vec![in alloc; (Key::Int(2), 3)]?)),
+        LindaReply::Done,
+        LindaReply::Withdrawn,
+    ]?)
+}
+
+#[test]
+fn copies_each_variant(rt: HostRuntime) -> Result<(), Memory> {
+    let alloc = rt.alloc();
+    for op in each_op(alloc)? {
+        let call = BankCall { linda: 11, op };
+        let copy = call.copy(alloc)?;
+        assert_eq!(rt;
+            format!(in alloc; "{call:?}")?.as_str(),
+            format!(in alloc; "{copy:?}")?.as_str()
+        );
+    }
+    for reply in each_reply(alloc)? {
+        let copy = reply.copy(alloc)?;
+        assert_eq!(rt;
+            format!(in alloc; "{reply:?}")?.as_str(),
+            format!(in alloc; "{copy:?}")?.as_str()
+        );
+    }
+    Ok(())
+}
