@@ -1,0 +1,47 @@
+//! Values and texts by number, with ample memory.
+use crate::{Arena, ArenaFault, Memory, Names};
+
+#[test]
+fn values_keep_their_numbers(rt: HostRuntime) {
+    let mut squares: Arena<u64> = Arena::new(rt.alloc());
+    assert!(rt; squares.reserve(3) == Ok(()));
+    assert!(rt; squares.reserve(2) == Ok(()));
+    let zero = squares.push(0);
+    let one = squares.push(1);
+    let two = squares.push(4);
+    assert!(rt; squares.len() == 3);
+    assert!(rt; (zero.number(), one.number(), two.number()) == (0, 1, 2));
+    assert!(rt; zero != one && one == one);
+    *squares.get_mut(two) += 5;
+    assert!(rt; *squares.get(two) == 9 && *squares.get(one) == 1);
+    assert!(rt; squares.reserve(u32::MAX as usize - 2) == Err(ArenaFault::Full));
+    assert!(rt; squares.reserve(1) == Ok(()) && squares.len() == 3);
+}
+
+#[test]
+fn each_text_has_one_number(rt: HostRuntime) {
+    let mut names = Names::new(rt.alloc());
+    let words = [b"print".as_slice(), b"", b"a\0b", b"print", b"", b"x"];
+    let wanted = [0, 1, 2, 0, 1, 3];
+    for (word, number) in words.iter().zip(wanted) {
+        let id = names.name(word).expect(&rt, "there is memory");
+        assert!(rt; id.number() == number);
+    }
+    let print = names.find(b"print").expect(&rt, "it was named");
+    assert!(rt; names.find(b"a").is_none());
+    assert!(rt; print.number() == 0);
+}
+
+/// The text of the number that it gets.
+fn text_again<'a>(names: &'a mut Names, text: &[u8]) -> Result<&'a [u8], Memory> {
+    let id = names.name(text)?;
+    Ok(names.text(id))
+}
+
+#[test]
+fn a_name_gives_its_text(rt: HostRuntime) {
+    let mut names = Names::new(rt.alloc());
+    assert!(rt; text_again(&mut names, b"one") == Ok(b"one".as_slice()));
+    assert!(rt; text_again(&mut names, b"two") == Ok(b"two".as_slice()));
+    assert!(rt; text_again(&mut names, b"one") == Ok(b"one".as_slice()));
+}
