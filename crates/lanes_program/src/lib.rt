@@ -1,13 +1,16 @@
-// A library with one function.
+//! The program's top call: it reads a script, runs it, and writes what the script prints.
 #![tactic(auto)]
 
-ghost use Rattle.std.specs.Prelude.{◌≡◌};
-ghost use Rattle.lanes_program.specs.Echo.{echo_of};
+mod calls;
+mod finish;
+mod lines;
+mod reading;
+mod refusal;
+mod run;
 
-// The `ensures` clause is the contract: what `echo` returns is `echo_of` of its argument, a definition
-// in `specs/Echo.antt`, which a caller's clause can cite too.
-pub fn echo(x: usize) -> usize
-    ensures { result ≡ echo_of x }
-{
-    x
-}
+
+mod words;
+mod writing;
+
+pub use finish::{Finished, run_lanes};
+pub use words::script_word;

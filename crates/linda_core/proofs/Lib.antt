@@ -1,4 +1,5 @@
 pub mod ContentLemmas
+pub mod KeyLemmas
 pub mod ReadyLemmas
 pub mod ServingLemmas
 mod Rows

@@ -1,0 +1,4 @@
+pub mod HoldLemmas
+pub mod RefusalLemmas
+pub mod RunLemmas
+pub mod Taken

@@ -1,0 +1,21 @@
+-- What an input gave, and what a count of faults tells.
+use Rattle.std.specs.Prelude.{◌≤◌, ◌<◌, ℕ, List, length}
+use Rattle.std.specs.declared.option.Option.{Option}
+use Rattle.std.specs.Io.KnownBytes.{Consumes, IsAtEnd}
+use Rattle.outside.specs.Faults.{Rose}
+
+-- An answer that tells of a fault comes exactly where the count rose. Where the count stands at its end, nothing is said.
+pub record TellsFaults (before now : ℕ) (told : Type 0) : Type 0 where
+  pub later : before ≤ now
+  pub only : told → Rose before now
+  pub always : before < now → told
+
+-- the input gave this script, and was read to its end
+pub record Gave (old new : Option (List ℕ)) (script : List ℕ) : Type 0 where
+  pub consumed : Consumes old new script
+  pub ended : IsAtEnd new
+
+-- the input gave more than a script may have
+pub record GaveTooMuch (old new : Option (List ℕ)) (read : List ℕ) : Type 0 where
+  pub consumed : Consumes old new read
+  pub long : 1048576 < length read

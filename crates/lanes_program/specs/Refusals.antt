@@ -1,0 +1,70 @@
+-- Why a script is refused, and the line on the errors that says so.
+use Rattle.std.specs.Prelude.{◌≡◌, ◌<◌, ℕ, List, [], ◌∷◌, ◌++◌, codes, length, Bool, true, false, ◌==◌, if◌then◌else◌}
+use Rattle.std.specs.declared.option.Option.{Option}
+use Rattle.std.specs.Fmt.{decimal}
+use Rattle.lua_lexer.specs.declared.fault.LexFault.{LexFault}
+use Rattle.lua_lexer.specs.declared.fault.LexFault.TheVariants.{BadByte, BadNumeral, FloatNumeral, BadEscape, OpenString, OpenComment, TooLong as Longer, Memory}
+use Rattle.lua_lexer.specs.Tokens.{Mark, Lexes}
+use Rattle.lua_lexer.specs.View.{IsFault}
+use Rattle.first_form.specs.declared.line.Line.{Line}
+use Rattle.first_form.specs.Outcome.{IsFirstForm}
+use Rattle.lanes_program.specs.declared.refusal.Refusal.{Refusal}
+use Rattle.lanes_program.specs.declared.refusal.Refusal.TheVariants.{TooLong, Lexical, NotBuilt}
+use Rattle.lanes_program.specs.Reading.{Gave, GaveTooMuch}
+
+-- the text of a lexical fault, and the line of the script where it is
+abbrev pub fault_text : LexFault → List ℕ
+fault_text (BadByte place) = codes "unexpected byte"
+fault_text (BadNumeral place) = codes "malformed numeral"
+fault_text (FloatNumeral place) = codes "float numeral"
+fault_text (BadEscape place) = codes "invalid escape"
+fault_text (OpenString place) = codes "unfinished string"
+fault_text (OpenComment place) = codes "unfinished comment"
+fault_text Longer = codes "script too long"
+fault_text Memory = codes "not enough memory"
+
+abbrev pub fault_line : LexFault → ℕ
+fault_line (BadByte place) = place.line
+fault_line (BadNumeral place) = place.line
+fault_line (FloatNumeral place) = place.line
+fault_line (BadEscape place) = place.line
+fault_line (OpenString place) = place.line
+fault_line (OpenComment place) = place.line
+fault_line Longer = 0
+fault_line Memory = 0
+
+-- the fault is at a place of the script
+abbrev pub has_place : LexFault → Bool
+has_place Longer = false
+has_place Memory = false
+has_place _ = true
+
+-- how the line goes on behind the script's name
+abbrev pub refusal_text : Refusal → List ℕ
+refusal_text TooLong = codes ": script too long"
+refusal_text (Lexical fault) = codes ":" ++ (decimal (fault_line fault) ++ (codes ": " ++ fault_text fault))
+refusal_text NotBuilt = codes ": not built yet"
+
+abbrev pub refusal_line : List ℕ → Refusal → List ℕ
+refusal_line name refusal = codes "lanes: " ++ (name ++ (refusal_text refusal ++ codes "\n"))
+
+-- the word is a dash
+abbrev pub is_dash : List ℕ → Bool
+is_dash [] = false
+is_dash (b ∷ []) = b == 45
+is_dash (b ∷ c ∷ rest) = false
+
+-- the name that lines give the script
+abbrev pub script_name : List ℕ → List ℕ
+script_name word = if is_dash word then codes "stdin" else word
+
+-- a script of lawful length has no tokens, with this fault, or has tokens and does not run yet
+abbrev pub Refuses : List ℕ → Refusal → Type 0
+Refuses script TooLong = ⊥
+Refuses script (Lexical fault) = IsFault script fault × (has_place fault ≡ true)
+Refuses script NotBuilt = ((marks : List Mark) × Lexes script marks) × ((lines : List Line) → IsFirstForm script lines → ⊥)
+
+-- the input gave a script that is refused so, and was read to its end, or it gave more than a script may have
+abbrev pub IsRefused : Option (List ℕ) → Option (List ℕ) → Refusal → Type 0
+IsRefused old new TooLong = (read : List ℕ) × GaveTooMuch old new read
+IsRefused old new refusal = (script : List ℕ) × Gave old new script × Refuses script refusal

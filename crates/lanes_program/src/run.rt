@@ -1,0 +1,96 @@
+//! Runs a script, and what a run ends with.
+ghost use Rattle.std.specs.Prelude.{◌≡◌, ◌≢◌, ◌≤◌, [], List, length, IfOk, IfErr};
+ghost use Rattle.std.specs.Io.KnownBytes.{Keeps};
+ghost use Rattle.lanes_program.specs.Finish.{RunsPart, RunsWhole};
+ghost use Rattle.lanes_program.specs.Reading.{TellsFaults};
+ghost use Rattle.lanes_program.specs.Refusals.{IsRefused, Refuses};
+ghost use Rattle.lanes_program.specs.Running.{RanAll, RanPart};
+ghost use Rattle.lanes_program.specs.Status.{IsEarlyEnd, MayChange};
+ghost use Rattle.first_form.specs.Outcome.{IsFirstForm};
+
+use crate::calls::Call;
+use crate::lines::{LineStop, run_lines};
+use crate::reading::{ReadEnd, read_script};
+use crate::refusal::Refusal;
+use first_form::{Line, lines_of};
+use lua_lexer::{LexFault, tokens};
+use outside::{Sink, Source};
+use std::alloc::Global;
+
+/// How a run ended.
+#[derive(Clone, Copy, Debug, PartialEq, Eq)]
+pub enum End {
+    Done,
+    Refused(Refusal),
+    Memory,
+    ReadFault,
+    WriteFault,
+}
+
+/// Reads the script, runs it and writes what it prints. `calls` gains the calls that it made.
+pub fn run_script<I: Source, O: Sink>(
+    alloc: Global,
+    input: &mut I,
+    output: &mut O,
+    calls: &mut Vec<Call>,
+) -> End
+    requires { calls.old.items ≡ [] }
+    ensures read { TellsFaults (I.faults input.old) (I.faults input.new) (result ≡ End.ReadFault) }
+    ensures write { TellsFaults (O.faults output.old) (O.faults output.new) (result ≡ End.WriteFault) }
+    ensures done { result ≡ End.Done → RunsWhole (I.left input.old) (I.left input.new) (O.taken output.old) (O.taken output.new) calls.new.items }
+    ensures part { result ≡ End.WriteFault → RunsPart (I.left input.old) (I.left input.new) (O.taken output.old) (O.taken output.new) calls.new.items }
+    ensures refused { (refusal : Refusal) → result ≡ End.Refused refusal → IsRefused (I.left input.old) (I.left input.new) refusal }
+    ensures kept { (MayChange result → ⊥) → Keeps (O.taken output.old) (O.taken output.new) × (calls.new.items ≡ []) }
+{
+    match read_script(alloc, input) {
+        Ok(script) => run_text(alloc, &script, output, calls),
+        Err(ReadEnd::Fault) => End::ReadFault,
+        Err(ReadEnd::TooLong) => End::Refused(Refusal::TooLong),
+        Err(ReadEnd::Memory) => End::Memory,
+    }
+}
+
+// Runs a script of lawful length.
+fn run_text<O: Sink>(
+    alloc: Global,
+    script: &[u8],
+    output: &mut O,
+    calls: &mut Vec<Call>,
+) -> End
+    requires short { length script.now ≤ 1048576 }
+    requires empty { calls.old.items ≡ [] }
+    ensures write { TellsFaults (O.faults output.old) (O.faults output.new) (result ≡ End.WriteFault) }
+    ensures done { result ≡ End.Done → (lines : List Line) × IsFirstForm script.now lines × RanAll lines (O.taken output.old) (O.taken output.new) calls.new.items }
+    ensures part { result ≡ End.WriteFault → (lines : List Line) × IsFirstForm script.now lines × RanPart lines (O.taken output.old) (O.taken output.new) calls.new.items }
+    ensures refused { (refusal : Refusal) → result ≡ End.Refused refusal → Refuses script.now refusal }
+    ensures no_read { result ≢ End.ReadFault }
+    ensures kept { (MayChange result → ⊥) → Keeps (O.taken output.old) (O.taken output.new) × (calls.new.items ≡ []) }
+{
+    match accepted(alloc, script) {
+        Ok(lines) => match run_lines(alloc, &lines, output, calls) {
+            Ok(()) => End::Done,
+            Err(LineStop::WriteFault) => End::WriteFault,
+            Err(LineStop::Memory) => End::Memory,
+        },
+        Err(end) => end,
+    }
+}
+
+// The lines of a script that runs, or how its run ends at once: refused, or for want of memory.
+fn accepted(alloc: Global, script: &[u8]) -> Result<Vec<Line>, End>
+    requires { length script.now ≤ 1048576 }
+    ensures lines { IfOk result (λ lines. IsFirstForm script.now lines.items) }
+    ensures refused { (refusal : Refusal) → result ≡ Err (End.Refused refusal) → Refuses script.now refusal }
+    ensures others { IfErr result IsEarlyEnd }
+{
+    match tokens(alloc, script) {
+        Ok(_) => {}
+        Err(LexFault::TooLong | LexFault::Memory) => return Err(End::Memory),
+        Err(fault) => return Err(End::Refused(Refusal::Lexical(fault))),
+    }
+    match lines_of(alloc, script) {
+        Ok(Some(lines)) => Ok(lines),
+        Ok(None) => Err(End::Refused(Refusal::NotBuilt)),
+        Err(_) => Err(End::Memory),
+    }
+}
