@@ -7,8 +7,6 @@ mod lines;
 mod reading;
 mod refusal;
 mod run;
-
-
 mod words;
 mod writing;
 

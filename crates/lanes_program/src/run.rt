@@ -51,12 +51,7 @@ pub fn run_script<I: Source, O: Sink>(
 }
 
 // Runs a script of lawful length.
-fn run_text<O: Sink>(
-    alloc: Global,
-    script: &[u8],
-    output: &mut O,
-    calls: &mut Vec<Call>,
-) -> End
+fn run_text<O: Sink>(alloc: Global, script: &[u8], output: &mut O, calls: &mut Vec<Call>) -> End
     requires short { length script.now ≤ 1048576 }
     requires empty { calls.old.items ≡ [] }
     ensures write { TellsFaults (O.faults output.old) (O.faults output.new) (result ≡ End.WriteFault) }

@@ -1,4 +1,5 @@
 //! What a token is, and where it stands.
+ghost use Rattle.std.specs.Prelude.{◌≡◌, ◌↔◌, IsTrue};
 
 use crate::place::Place;
 use crate::sign::Sign;
@@ -15,6 +16,15 @@ pub enum Lexeme {
     Word(Word),
     Sign(Sign),
     End,
+}
+
+impl Lexeme {
+    /// Whether this stands behind the last byte of a script.
+    pub fn is_end(&self) -> bool
+        ensures { IsTrue result ↔ (self.now ≡ Lexeme.End) }
+    {
+        matches!(self, Lexeme::End)
+    }
 }
 
 /// A token, with the place of its first byte.

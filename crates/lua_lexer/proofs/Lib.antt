@@ -1,0 +1,12 @@
+pub mod Closes
+pub mod Words
+pub mod Runs
+pub mod LineEnds
+pub mod Gaps
+pub mod Codes
+pub mod Fronts
+pub mod Strings
+pub mod Standing
+pub mod Places
+pub mod Turns
+pub mod Exact
