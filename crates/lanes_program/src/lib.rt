@@ -7,6 +7,8 @@ mod lines;
 mod reading;
 mod refusal;
 mod run;
+#[cfg(test)]
+mod tests;
 mod words;
 mod writing;
 

@@ -1,7 +1,7 @@
 -- Long brackets.
-use Rattle.std.proofs.Common.{◌≡◌, refl, sym, ◌∙◌, ap, ℕ, zero, suc, ◌+◌, ◌≤◌, Bool, true, false, nat_eq, ◌&&◌, List, [], ◌∷◌, length, Option, Some, None, arith}
+use Rattle.std.proofs.Common.{◌≡◌, refl, ap, ℕ, zero, suc, ◌+◌, ◌≤◌, Bool, true, false, nat_eq, ◌&&◌, List, [], ◌∷◌, length, Option, Some, None, arith}
 use Rattle.std.proofs.lemmas.Bool.{ne_eqb}
-use Rattle.lua_lexer.specs.Spellings.{rest_closes, closes, one_more, close_at}
+use Rattle.lua_lexer.specs.Spellings.{rest_closes, one_more, close_at}
 
 -- the place, counted from k bytes before
 abbrev pub further : ℕ → Option ℕ → Option ℕ

@@ -1,13 +1,13 @@
 -- Each script has one list of tokens or one fault.
-use Rattle.std.proofs.Common.{◌≡◌, ◌≢◌, refl, sym, ◌∙◌, ap, subst, ℕ, zero, suc, ◌+◌, ◌≤◌, ◌<◌, Bool, true, false, if◌then◌else◌, nat_eq, ◌&&◌, List, [], ◌∷◌, ◌++◌, length, Option, Some, None, Ok, Err, arith}
+use Rattle.std.proofs.Common.{◌≡◌, ◌≢◌, refl, sym, ◌∙◌, ap, subst, ℕ, zero, suc, ◌<◌, Bool, true, false, if◌then◌else◌, nat_eq, ◌&&◌, List, [], ◌∷◌, length, Option, Some, None, Ok, Err, arith}
 use Rattle.std.proofs.lemmas.Bool.{eqb-true}
 use Rattle.lua_lexer.specs.declared.stop.Why.{Why}
 use Rattle.lua_lexer.specs.Bytes.{is_blank}
-use Rattle.lua_lexer.specs.Spellings.{dashes, comment}
-use Rattle.lua_lexer.specs.Tokens.{Lex, finish, Skips, none, blank, remark, Gap, begins_blank, comment_behind, comment_here, Spells, Mark, mark, Step, Last, LexesFrom, Lexes, past_first, Stuck, FailsFrom, LexFails, OneAnswer, list, fault}
+use Rattle.lua_lexer.specs.Spellings.{dashes}
+use Rattle.lua_lexer.specs.Tokens.{Lex, finish, Skips, none, blank, remark, Gap, begins_blank, comment_behind, comment_here, Mark, mark, Step, Last, LexesFrom, past_first, Stuck, FailsFrom, OneAnswer, list, fault}
 use Rattle.lua_lexer.specs.Reading.{Outcome, Stop, spelling, is_finish}
 use Rattle.lua_lexer.proofs.Gaps.{dashes_short, comment_short}
-use Rattle.lua_lexer.proofs.Standing.{spelled_read, no_finish_spelled, read_spelled, read_end, read_fault, blamed_read}
+use Rattle.lua_lexer.proofs.Standing.{spelled_read, no_finish_spelled, read_end, read_fault, blamed_read}
 use Rattle.lua_lexer.proofs.Places.{gap_within, token_shorter}
 use Rattle.lua_lexer.proofs.Turns.{step_lexes, turn_last, turn_step, turn_stuck}
 
@@ -214,13 +214,13 @@ module _ (script : List ℕ) where
   at_token bs here more x g e n (listed ms h one others) =
       let s = turn_step script bs here more x g e n in
       listed (mark script here x ∷ ms) (step_lexes script bs more (mark script here x) ms s h)
-          (λ ns l. let t = token_lexes bs here more x g e n ns l in t.1 ∙ ap (λ z. mark script here x ∷ z) (one t.0 t.2))
-          (λ ns stop f. let t = token_fails bs here more x g e ns stop f in others t.0 stop t.1)
+      (λ ns l. let t = token_lexes bs here more x g e n ns l in t.1 ∙ ap (λ z. mark script here x ∷ z) (one t.0 t.2))
+      (λ ns stop f. let t = token_fails bs here more x g e ns stop f in others t.0 stop t.1)
   at_token bs here more x g e n (failed ms stop h one others) =
       let s = turn_step script bs here more x g e n in
       failed (mark script here x ∷ ms) stop (more, s, h)
-          (λ ns other f. let t = token_fails bs here more x g e ns other f in one t.0 other t.1)
-          (λ ns l. let t = token_lexes bs here more x g e n ns l in others t.0 t.2)
+      (λ ns other f. let t = token_fails bs here more x g e ns other f in one t.0 other t.1)
+      (λ ns l. let t = token_lexes bs here more x g e n ns l in others t.0 t.2)
 
   -- ---- at a fault
 

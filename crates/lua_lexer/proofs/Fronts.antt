@@ -1,5 +1,5 @@
 -- What stands in front of the rest.
-use Rattle.std.proofs.Common.{◌≡◌, refl, sym, ◌∙◌, ap, subst, ℕ, zero, suc, ◌+◌, ◌-◌, ◌*◌, ◌≤◌, ◌<◌, Bool, true, false, if◌then◌else◌, not, nat_eq, ◌&&◌, ◌||◌, List, [], ◌∷◌, ◌++◌, append_assoc, length-append, length, take, drop, arith}
+use Rattle.std.proofs.Common.{◌≡◌, refl, sym, ◌∙◌, ap, ℕ, ◌+◌, ◌-◌, ◌≤◌, Bool, true, false, if◌then◌else◌, not, nat_eq, ◌&&◌, ◌||◌, List, [], ◌∷◌, ◌++◌, append_assoc, length-append, length, take, drop, arith}
 use Rattle.std.specs.List.{list_all}
 use Rattle.std.proofs.lemmas.Bool.{eqb-true}
 use Rattle.std.proofs.lemmas.List.{take-append-drop}
@@ -115,4 +115,3 @@ past_line_end_suffix (b ∷ c ∷ bs) = by (is_pair b c) (is_line_end b)
     by true w = suffix_trans (b ∷ c ∷ bs) (c ∷ bs) bs (suffix_cons b (c ∷ bs)) (suffix_cons c bs)
     by false true = suffix_cons b (c ∷ bs)
     by false false = suffix_refl (b ∷ c ∷ bs)
-

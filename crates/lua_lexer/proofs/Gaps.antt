@@ -1,9 +1,8 @@
 -- Blanks and comments.
-use Rattle.std.proofs.Common.{◌≡◌, refl, sym, ◌∙◌, ap, subst, ℕ, zero, suc, ◌+◌, ◌-◌, ◌≤◌, ◌<◌, Bool, true, false, if◌then◌else◌, nat_eq, ◌&&◌, List, [], ◌∷◌, length, take, drop, length-drop, Option, Some, None, arith}
-use Rattle.std.proofs.lemmas.Bool.{eqb-true}
+use Rattle.std.proofs.Common.{◌≡◌, refl, ◌∙◌, ap, subst, ℕ, ◌≤◌, ◌<◌, Bool, true, false, if◌then◌else◌, nat_eq, ◌&&◌, List, [], ◌∷◌, length, length-drop, Option, Some, None, arith}
 use Rattle.lua_lexer.specs.Bytes.{past, run, is_blank, is_inline, is_equals}
 use Rattle.lua_lexer.specs.Spellings.{then_open, opening, opens, close_at, split_close, up_to_close, behind_close, long_or_line, comment, dashes}
-use Rattle.lua_lexer.specs.Tokens.{Skips, none, blank, remark, Gap, begins_blank, comment_behind, comment_here}
+use Rattle.lua_lexer.specs.Tokens.{Skips, none, blank, remark, Gap, begins_blank, comment_behind}
 use Rattle.lua_lexer.proofs.Runs.{past_short}
 
 -- ---- what stands behind is not longer

@@ -1,11 +1,11 @@
 -- Places, and line ends in gaps and tokens.
-use Rattle.std.proofs.Common.{◌≡◌, refl, sym, ◌∙◌, ap, subst, ℕ, zero, suc, ◌+◌, ◌-◌, ◌≤◌, ◌<◌, Bool, true, false, if◌then◌else◌, nat_eq, ◌&&◌, ◌||◌, List, [], ◌∷◌, ◌++◌, append_assoc, length-append, length, take, drop, map, Option, Some, None, Ok, Err, arith}
+use Rattle.std.proofs.Common.{◌≡◌, refl, sym, ◌∙◌, ap, subst, ℕ, zero, suc, ◌+◌, ◌-◌, ◌≤◌, ◌<◌, Bool, true, false, if◌then◌else◌, nat_eq, ◌&&◌, ◌||◌, List, [], ◌∷◌, ◌++◌, length, take, drop, Option, Some, None, Ok, arith}
 use Rattle.std.specs.List.{list_all}
 use Rattle.std.proofs.lemmas.Bool.{eqb-true}
 use Rattle.lua_tokens.specs.declared.Token.{Token}
 use Rattle.lua_lexer.specs.Bytes.{run, past, is_blank, is_inline, is_equals, is_line_end, is_word, is_digit, is_letter, is_pair, is_quote, line_ends, line_feeds, past_line_end}
 use Rattle.lua_lexer.specs.Spellings as l
-use Rattle.lua_lexer.specs.Tokens.{Lex, name, int, text, word, sign, finish, Skips, none, blank, remark, Gap, begins_blank, comment_here, Stands, a_name, a_word, an_integer, a_sign, a_string, a_bracket, Mark, place, line, mark, past_first}
+use Rattle.lua_lexer.specs.Tokens.{Lex, name, int, text, word, sign, Skips, none, blank, remark, Gap, begins_blank, Stands, a_name, a_word, an_integer, a_sign, a_string, a_bracket, place, line, mark, past_first}
 use Rattle.lua_lexer.specs.Reading.{spelling, is_finish}
 use Rattle.lua_lexer.specs.View.{lex, token, marks}
 use Rattle.lua_lexer.proofs.LineEnds.{Starts, other_first}
@@ -301,4 +301,3 @@ marked xs t script here x e a n = marks_more xs t ∙ ap (λ z. marks xs ++ z �
   where
     same : token t ≡ mark script here x
     same = rw (e, a, n) refl
-

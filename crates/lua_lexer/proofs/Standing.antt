@@ -1,21 +1,20 @@
 -- The token that is read is the spelling.
-use Rattle.std.proofs.Common.{◌≡◌, ◌≢◌, refl, sym, ◌∙◌, ap, subst, ℕ, zero, suc, ◌+◌, ◌-◌, ◌≤◌, ◌<◌, Bool, true, false, if◌then◌else◌, nat_eq, nat_le, ◌&&◌, ◌||◌, List, [], ◌∷◌, ◌++◌, append_assoc, append-nil, length-append, length, take, drop, length-drop, ◌⊎◌, inl, inr, Option, Some, None, Ok, Err, arith}
+use Rattle.std.proofs.Common.{◌≡◌, ◌≢◌, refl, sym, ◌∙◌, ap, subst, ℕ, ◌+◌, ◌≤◌, ◌<◌, Bool, true, false, if◌then◌else◌, nat_eq, nat_le, ◌&&◌, ◌||◌, List, [], ◌∷◌, ◌++◌, length-append, length, drop, length-drop, ◌⊎◌, inl, inr, Option, Some, None, Ok, Err, arith}
 use Rattle.std.specs.Prelude.{ℤ}
 use Rattle.std.specs.List.{list_all}
 use Rattle.std.proofs.lemmas.Bool.{eqb-true, leb-true, lt-leb, ne_eqb}
-use Rattle.lua_lexer.specs.declared.stop.Why.{Why}
-use Rattle.lua_lexer.specs.declared.stop.Why.TheVariants.{BadByte, BadEscape, OpenString, OpenComment, BadNumeral, FloatNumeral}
+use Rattle.lua_lexer.specs.declared.stop.Why.TheVariants.{BadByte, OpenComment}
 use Rattle.lua_tokens.specs.declared.Word.{Word}
 use Rattle.lua_tokens.specs.declared.Sign.{Sign}
 use Rattle.lua_tokens.specs.declared.Sign.TheVariants as s
 use Rattle.int_ops.specs.Reading.{integer_of}
-use Rattle.lua_lexer.specs.Bytes.{is_equals, run, past, is_word, is_digit, is_letter, is_quote, is_inline, is_line_end, line_feeds, past_line_end}
-use Rattle.lua_lexer.specs.Spellings.{then_open, close_at, split_close, up_to_close, opening, opens, dashes, is_name, keyword, sign_text, in_run, run_from, past_from, is_hex, numeral_run, past_numeral, begins_digit, begins_numeral, is_numeral, is_float, is_exponent, is_plus_minus, Quoted, Broken}
-use Rattle.lua_lexer.specs.Tokens.{Lex, name, int, text, word, sign, finish, Stands, a_name, a_word, an_integer, a_sign, a_string, a_bracket, Allowed, Spells, begins_letter, begins_quote, Blames, of_comment, of_float, of_numeral, of_string, of_bracket, of_byte}
+use Rattle.lua_lexer.specs.Bytes.{is_equals, run, past, is_word, is_digit, is_letter, is_quote, is_inline, line_feeds, past_line_end}
+use Rattle.lua_lexer.specs.Spellings.{then_open, close_at, split_close, up_to_close, opening, opens, dashes, is_name, keyword, sign_text, run_from, past_from, is_hex, numeral_run, past_numeral, begins_digit, begins_numeral, is_numeral, is_float, is_exponent, is_plus_minus}
+use Rattle.lua_lexer.specs.Tokens.{Lex, int, text, sign, finish, Stands, a_name, a_word, an_integer, a_sign, a_string, a_bracket, Allowed, Spells, begins_letter, begins_quote, Blames, of_comment, of_float, of_numeral, of_string, of_bracket, of_byte}
 use Rattle.lua_lexer.specs.Reading.{Outcome, Stop, named, word_at, float_or_bad, int_or_stop, integer_run, numeral_at, longer, dots, less, greater, single, with_rest, sign_at, string, texted, bracket_end, signed, dashed_or_signed, bracketed, spelling, is_finish}
 use Rattle.lua_lexer.proofs.Runs.{run_past, numeral_whole}
 use Rattle.lua_lexer.proofs.Fronts.{Solid, suffix_short}
-use Rattle.lua_lexer.proofs.Strings.{quoted_solid, string_reads, string_meets, Meets, quote_is, texted_ok, texted_err}
+use Rattle.lua_lexer.proofs.Strings.{quoted_solid, string_meets, Meets, quote_is, texted_ok, texted_err}
 
 -- ---- a front of bytes of a kind
 
@@ -117,12 +116,11 @@ word_met : (front rest bs : List ℕ) → list_all is_word front ≡ true → Me
 unfolding word_at
 word_met front rest bs e =
     let w = run_past is_word (front ++ rest) in
-    let o = past_over is_word front rest e in
-    (
+    let o = past_over is_word front rest e in (
       rw o (past_short is_word rest),
       λ h.
-        let f = front_same (run is_word (front ++ rest)) front (past is_word (front ++ rest)) rest w h in
-        ap (λ z. (named z (keyword z), past is_word (front ++ rest))) f.0 ∙ ap (λ z. (named front (keyword front), z)) f.1,
+          let f = front_same (run is_word (front ++ rest)) front (past is_word (front ++ rest)) rest w h in
+          ap (λ z. (named z (keyword z), past is_word (front ++ rest))) f.0 ∙ ap (λ z. (named front (keyword front), z)) f.1,
     )
 
 name_met : (bs front rest : List ℕ) → bs ≡ front ++ rest → is_name front ≡ true → MeetsAt bs (named front (keyword front)) rest (spelling bs)
@@ -151,15 +149,14 @@ from_over hex before (b ∷ front) rest h = from_by hex before b front rest (is_
 
 int_met : (front rest : List ℕ) (n : ℤ) → list_all is_word front ≡ true → is_numeral front ≡ true → integer_of front ≡ Some n → begins_numeral (front ++ rest) ≡ true
     → (o : Option ℤ) → integer_run (numeral_run (front ++ rest)) ≡ o → MeetsAt (front ++ rest) (int n) rest (int_or_stop (front ++ rest) o)
-int_met front rest n a d e b (Some m) f =
-    (
-      from_over (is_hex (front ++ rest)) 0 front rest a,
-      λ h.
-        let g = front_same (numeral_run (front ++ rest)) front (past_numeral (front ++ rest)) rest (numeral_whole (is_hex (front ++ rest)) 0 (front ++ rest)) h in
-        let k : integer_run front ≡ Some n = rw d e in
-        let j : m ≡ n = cc (f, k, ap integer_run g.0) in
-        ap (λ z. (int z, past_numeral (front ++ rest))) j ∙ ap (λ z. (int n, z)) g.1,
-    )
+int_met front rest n a d e b (Some m) f = (
+  from_over (is_hex (front ++ rest)) 0 front rest a,
+  λ h.
+      let g = front_same (numeral_run (front ++ rest)) front (past_numeral (front ++ rest)) rest (numeral_whole (is_hex (front ++ rest)) 0 (front ++ rest)) h in
+      let k : integer_run front ≡ Some n = rw d e in
+      let j : m ≡ n = cc (f, k, ap integer_run g.0) in
+      ap (λ z. (int z, past_numeral (front ++ rest))) j ∙ ap (λ z. (int n, z)) g.1,
+)
 int_met front rest n a d e b None f = λ w.
     let g = front_same (numeral_run (front ++ rest)) front (past_numeral (front ++ rest)) rest (numeral_whole (is_hex (front ++ rest)) 0 (front ++ rest)) (ap length (sym (w.whole_numeral b))) in
     let k : integer_run front ≡ Some n = rw d e in
@@ -227,6 +224,7 @@ dots_by bs d ds true = by (longer 46 s.DotDotDot s.DotDot ds) (longer_within ds)
         within : (v : Bool) → length (sign_rest (if v then (s.DotDotDot, es) else (s.DotDot, e ∷ es))) ≤ length (e ∷ es)
         within true = omega arith
         within false = omega arith
+
     by : (y : Sign × List ℕ) → length y.1 ≤ length ds → MeetsAt bs (sign s.Dot) (d ∷ ds) (signed bs (Some y))
     by y h = (omega (arith, h), λ g. absurd (omega (arith, h, g)))
 
@@ -342,8 +340,10 @@ quote_spelling quote inside e = by (nat_eq quote 34) (nat_eq quote 39) refl refl
   where
     at34 : 34 ≡ quote → spelling (quote ∷ inside) ≡ texted (string (quote ∷ inside) quote inside)
     at34 k = subst (λ (z : ℕ). spelling (z ∷ inside) ≡ texted (string (z ∷ inside) z inside)) k refl
+
     at39 : 39 ≡ quote → spelling (quote ∷ inside) ≡ texted (string (quote ∷ inside) quote inside)
     at39 k = subst (λ (z : ℕ). spelling (z ∷ inside) ≡ texted (string (z ∷ inside) z inside)) k refl
+
     by : (u v : Bool) → nat_eq quote 34 ≡ u → nat_eq quote 39 ≡ v → (u || v) ≡ true → spelling (quote ∷ inside) ≡ texted (string (quote ∷ inside) quote inside)
     by true v f g h = at34 (sym (eqb-true quote 34 f))
     by false true f g h = at39 (sym (eqb-true quote 39 g))
@@ -356,6 +356,7 @@ bracket_spelling (b ∷ bs) level inside e = by (nat_eq b 91) refl e
   where
     at91 : 91 ≡ b → opening bs ≡ Some (level, inside) → spelling (b ∷ bs) ≡ bracket_end (b ∷ bs) (up_to_close level inside)
     at91 k h = subst (λ (z : ℕ). spelling (z ∷ bs) ≡ bracket_end (z ∷ bs) (up_to_close level inside)) k (ap (bracketed 91 bs) h)
+
     by : (v : Bool) → nat_eq b 91 ≡ v → (if v then opening bs else None) ≡ Some (level, inside) → spelling (b ∷ bs) ≡ bracket_end (b ∷ bs) (up_to_close level inside)
     by true f h = at91 (sym (eqb-true b 91 f)) h
     by false f h = cc
@@ -748,6 +749,7 @@ dash_stop (b ∷ c ∷ bs) inside e = by (nat_eq b 45) (nat_eq c 45) refl refl e
   where
     at : 45 ≡ b → 45 ≡ c → spelling (b ∷ c ∷ bs) ≡ Err (OpenComment, b ∷ c ∷ bs)
     at k l = subst (λ (z : ℕ). spelling (z ∷ c ∷ bs) ≡ Err (OpenComment, z ∷ c ∷ bs)) k (subst (λ (z : ℕ). spelling (45 ∷ z ∷ bs) ≡ Err (OpenComment, 45 ∷ z ∷ bs)) l refl)
+
     by : (u v : Bool) → nat_eq b 45 ≡ u → nat_eq c 45 ≡ v → (if u && v then Some bs else None) ≡ Some inside → spelling (b ∷ c ∷ bs) ≡ Err (OpenComment, b ∷ c ∷ bs)
     by true true f g h = at (sym (eqb-true b 45 f)) (sym (eqb-true c 45 g))
     by true false f g h = cc

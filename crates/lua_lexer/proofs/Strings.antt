@@ -1,11 +1,11 @@
 -- Quoted strings.
 use Rattle.std.proofs.Common.{◌≡◌, refl, sym, ◌∙◌, ap, subst, ℕ, zero, suc, ◌+◌, ◌-◌, ◌*◌, ◌≤◌, ◌<◌, Bool, true, false, if◌then◌else◌, nat_eq, nat_le, nat_lt, ◌&&◌, ◌||◌, not, List, [], ◌∷◌, ◌++◌, append_assoc, append-nil, eq-eqb, length, Option, Some, None, Ok, Err, arith}
-use Rattle.std.proofs.lemmas.Bool.{ne_eqb, eqb-true}
+use Rattle.std.proofs.lemmas.Bool.{eqb-true}
 use Rattle.lua_lexer.specs.declared.stop.Why.{Why}
 use Rattle.lua_lexer.specs.declared.stop.Why.TheVariants.{BadEscape, OpenString}
-use Rattle.lua_lexer.specs.Bytes.{past, run, is_digit, is_hex_digit, is_line_end, is_blank, is_pair, is_quote, past_line_end}
-use Rattle.lua_lexer.specs.Spellings.{is_plain, decimal, decimal_escape, hex_escape, code_point, unicode_escape, other_escape, letter_or_other, letter_escape, escape, Quoted, close, plain, escaped, breaks_off, Broken, ends, wrong, behind_plain, behind_escape, hex_number, utf8}
-use Rattle.lua_lexer.specs.Tokens.{Lex, text}
+use Rattle.lua_lexer.specs.Bytes.{past, run, is_digit, is_hex_digit, is_line_end, is_blank, is_quote}
+use Rattle.lua_lexer.specs.Spellings.{is_plain, decimal, decimal_escape, hex_escape, code_point, unicode_escape, other_escape, letter_or_other, letter_escape, escape, Quoted, close, plain, escaped, Broken, ends, wrong, behind_plain, behind_escape, hex_number, utf8}
+use Rattle.lua_lexer.specs.Tokens.{text}
 use Rattle.lua_lexer.specs.Reading.{Outcome, Stop, put_front, after_escape, quoted, string, texted}
 use Rattle.lua_lexer.proofs.Runs.{past_short}
 use Rattle.lua_lexer.proofs.Fronts.{Suffix, suffix_refl, suffix_cons, suffix_trans, suffix_past, suffix_short, past_line_end_suffix, Solid, solid_behind}
@@ -121,6 +121,7 @@ line_is b quote q e = (by (nat_eq b quote) refl, by92 (nat_eq b 92) refl)
     by : (v : Bool) → nat_eq b quote ≡ v → v ≡ false
     by true f = let h : is_line_end b ≡ false = ap is_line_end (eqb-true b quote f) ∙ q.no_line in cc
     by false f = refl
+
     by92 : (v : Bool) → nat_eq b 92 ≡ v → v ≡ false
     by92 true f = let h : is_line_end b ≡ false = ap is_line_end (eqb-true b 92 f) in cc
     by92 false f = refl
@@ -190,7 +191,7 @@ module _ (at : List ℕ) (quote : ℕ) (q : IsQuote quote) where
   byte_meets n b bs lt ih false true w e f g =
       let k : 92 ≡ b = sym (eqb-true b 92 f) in
       subst (λ (z : ℕ). Meets (z ∷ bs) (after_escape (quoted at quote n) (z ∷ bs) (escape bs))) k
-          (escape_meets (quoted at quote n) bs (λ behind le. ih behind (omega (arith, lt, le))) (escape bs) refl)
+      (escape_meets (quoted at quote n) bs (λ behind le. ih behind (omega (arith, lt, le))) (escape bs) refl)
   byte_meets n b bs lt ih false false true e f g = ends (b ∷ bs) g
   byte_meets n b bs lt ih false false false e f g =
       let k : is_plain quote b ≡ true = rw (e, f, g) refl in
@@ -258,7 +259,7 @@ module _ (at : List ℕ) (quote : ℕ) where
   string_more bytes found found' found'' bs v behind front after b good f f' p e k x value rest h =
       let g : Quoted quote (past (is_plain quote) bs) (front ++ value) rest = subst (λ (z : List ℕ). Quoted quote z (front ++ value) rest) (ap (λ z. z ∷ behind) (sym k) ∙ sym e ∙ p) (escaped behind front after value rest x h) in
       let i : found ++ (run (is_plain quote) bs ++ (front ++ value)) ≡ found'' ++ value =
-          sym (append_assoc found (run (is_plain quote) bs) (front ++ value)) ∙ sym (append_assoc (found ++ run (is_plain quote) bs) front value) ∙ ap (λ z. (z ++ front) ++ value) (sym f) ∙ ap (λ z. z ++ value) (sym f') in
+      sym (append_assoc found (run (is_plain quote) bs) (front ++ value)) ∙ sym (append_assoc (found ++ run (is_plain quote) bs) front value) ∙ ap (λ z. (z ++ front) ++ value) (sym f) ∙ ap (λ z. z ++ value) (sym f') in
       subst (λ (z : List ℕ). Quoted quote bytes z rest) i (good (run (is_plain quote) bs ++ (front ++ value)) rest (over_plain bs (front ++ value) rest g))
 
   pub string_after : (bytes bs v behind front after : List ℕ) (b : ℕ) → Bad bytes bs → v ≡ past (is_plain quote) bs → v ≡ b ∷ behind → b ≡ 92 → escape behind ≡ Some (front, after) → Bad bytes after

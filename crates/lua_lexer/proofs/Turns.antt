@@ -1,17 +1,17 @@
 -- One token after the other.
-use Rattle.std.proofs.Common.{◌≡◌, ◌≢◌, refl, sym, ◌∙◌, ap, subst, ℕ, suc, ◌+◌, ◌-◌, ◌≤◌, ◌<◌, Bool, true, false, List, [], ◌∷◌, ◌++◌, append_assoc, length, Ok, Err, arith}
+use Rattle.std.proofs.Common.{◌≡◌, refl, sym, ◌∙◌, ap, subst, ℕ, true, false, List, [], ◌∷◌, ◌++◌, append_assoc, Ok, Err}
 use Rattle.std.specs.Prelude.{Result, IsErrAnd, Vec}
 use Rattle.std.specs.declared.alloc.Global.{Global}
 use Rattle.lua_lexer.specs.declared.stop.Why.{Why}
 use Rattle.lua_tokens.specs.declared.Token.{Token}
-use Rattle.lua_lexer.specs.Tokens.{Lex, finish, Gap, Spells, Mark, place, line, mark, Step, Last, LexesFrom, Lexes, past_first, Stuck, FailsFrom, LexFails}
+use Rattle.lua_lexer.specs.Tokens.{Lex, Gap, Mark, place, line, mark, Step, LexesFrom, Lexes, Stuck, FailsFrom, LexFails}
 use Rattle.lua_lexer.specs.Reading.{spelling, is_finish}
 use Rattle.lua_tokens.specs.declared.Place.{Place}
 use Rattle.lua_lexer.specs.declared.stop.Why.TheVariants as why
 use Rattle.lua_lexer.specs.declared.stop.Stop.{Stop}
 use Rattle.lua_lexer.specs.declared.stop.Stop.TheVariants.{At, Memory}
 use Rattle.lua_lexer.specs.declared.fault.LexFault.TheVariants as f
-use Rattle.lua_lexer.specs.View.{lex, token, marks, placed, IsFault, Fails, Answers}
+use Rattle.lua_lexer.specs.View.{lex, marks, placed, IsFault, Fails, Answers}
 use Rattle.lua_lexer.proofs.Standing.{read_end, read_spelled, read_fault}
 use Rattle.lua_lexer.proofs.Places.{marked}
 

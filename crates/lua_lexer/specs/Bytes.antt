@@ -1,5 +1,5 @@
 -- Kinds of bytes, runs of them, and line ends (Lua manual, section 3.1).
-use Rattle.std.specs.Prelude.{ℕ, suc, ◌+◌, Bool, true, false, if◌then◌else◌, nat_le, nat_eq, ◌||◌, ◌&&◌, not, List, [], ◌∷◌}
+use Rattle.std.specs.Prelude.{ℕ, suc, Bool, if◌then◌else◌, nat_le, nat_eq, ◌||◌, ◌&&◌, not, List, [], ◌∷◌}
 
 abbrev pub is_digit : ℕ → Bool
 is_digit b = nat_le 48 b && nat_le b 57

@@ -1,5 +1,5 @@
 -- The token that stands at a place, by its first byte: what the code computes, which proofs show to be the spelling.
-use Rattle.std.specs.Prelude.{ℕ, ℤ, zero, suc, ◌<◌, Bool, true, false, if◌then◌else◌, nat_eq, ◌||◌, ◌&&◌, List, [], ◌∷◌, ◌++◌, length, Option, Some, None, Result, Ok, Err}
+use Rattle.std.specs.Prelude.{ℕ, ℤ, zero, suc, Bool, true, false, if◌then◌else◌, nat_eq, List, [], ◌∷◌, ◌++◌, length, Option, Some, None, Result, Ok, Err}
 use Rattle.lua_lexer.specs.declared.stop.Why.{Why}
 use Rattle.lua_lexer.specs.declared.stop.Why.TheVariants.{BadByte, BadEscape, OpenString, OpenComment, BadNumeral, FloatNumeral}
 use Rattle.lua_tokens.specs.declared.Word.{Word}
@@ -7,7 +7,7 @@ use Rattle.lua_tokens.specs.declared.Sign.{Sign}
 use Rattle.lua_tokens.specs.declared.Sign.TheVariants as s
 use Rattle.int_ops.specs.Reading.{integer_of}
 use Rattle.lua_lexer.specs.Bytes.{is_letter, is_line_end, is_quote, is_word, run, past, line_feeds, past_line_end}
-use Rattle.lua_lexer.specs.Spellings.{up_to_close, opens, dashes, keyword, numeral_run, past_numeral, begins_numeral, is_numeral, is_float, is_plain, escape}
+use Rattle.lua_lexer.specs.Spellings.{up_to_close, opens, dashes, keyword, numeral_run, past_numeral, begins_numeral, is_numeral, is_float, escape}
 use Rattle.lua_lexer.specs.Tokens.{Lex, name, int, text, word, sign, finish}
 
 abbrev pub Stop : Type 0

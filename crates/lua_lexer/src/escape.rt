@@ -6,7 +6,9 @@ ghost use Rattle.lua_lexer.specs.Bytes as byte;
 ghost use Rattle.lua_lexer.specs.Spellings as spec;
 ghost use Rattle.lua_lexer.specs.View.{seen_piece, piece_bytes, IsCode};
 
-use crate::bytes::{is_digit, is_hex_digit, is_line_end, is_quote, next, past_blanks, past_line_end};
+use crate::bytes::{
+    is_digit, is_hex_digit, is_line_end, is_quote, next, past_blanks, past_line_end,
+};
 use std::alloc::AllocError;
 
 /// What an escape stands for: nothing, a byte, or the UTF-8 of a number.
@@ -30,13 +32,7 @@ fn letter_escape(letter: u8) -> Option<u8>
         b't' => Some(b'\t'),
         b'v' => Some(11),
         b'\\' => Some(b'\\'),
-        _ => {
-            if is_quote(letter) {
-                Some(letter)
-            } else {
-                None
-            }
-        }
+        _ => { if is_quote(letter) { Some(letter) } else { None } }
     }
 }
 
@@ -99,7 +95,10 @@ fn hex_escape(bytes: &[u8]) -> Option<(Piece, &[u8])>
     let (first, rest) = next(bytes)?;
     let (second, behind) = next(rest)?;
     if is_hex_digit(first) && is_hex_digit(second) {
-        Some((Piece::Byte(hex_value(first) * 16 + hex_value(second)), behind))
+        Some((
+            Piece::Byte(hex_value(first) * 16 + hex_value(second)),
+            behind,
+        ))
     } else {
         None
     }

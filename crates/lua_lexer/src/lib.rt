@@ -11,6 +11,8 @@ mod script;
 mod sign;
 mod spelling;
 mod stop;
+#[cfg(test)]
+mod tests;
 mod text;
 mod word;
 
@@ -18,10 +20,9 @@ ghost use Rattle.std.specs.Prelude.{◌≡◌, ◌<◌, ◌↔◌, ℕ, List, le
 ghost use Rattle.lua_lexer.specs.Tokens.{Lexes, OneAnswer};
 ghost use Rattle.lua_lexer.specs.View.{marks, placed, IsFault};
 
+use bytes::line_ends;
 pub use fault::LexFault;
 pub use lua_tokens::{Lexeme, Place, Sign, Token, Word};
-
-use bytes::line_ends;
 use std::alloc::Global;
 use stop::{Stop, Why};
 
@@ -62,7 +63,13 @@ pub fn tokens(alloc: Global, script: &[u8]) -> Result<Vec<Token>, LexFault>
             let at = script.len().saturating_sub(rest.len());
             let (before, _) = script.split_at(at);
             let line = 1 + line_ends(before) as u32;
-            Err(fault_at(why, Place { at: at as u32, line }))
+            Err(fault_at(
+                why,
+                Place {
+                    at: at as u32,
+                    line,
+                },
+            ))
         }
     }
 }
@@ -71,5 +78,4 @@ pub fn tokens(alloc: Global, script: &[u8]) -> Result<Vec<Token>, LexFault>
 #[tactic(auto, using(crate::proofs::Exact::one_answer))]
 pub fn one_answer()
     ensures { (script : List ℕ) → OneAnswer script }
-{
-}
+{}

@@ -15,7 +15,11 @@ use lua_tokens::Lexeme;
 fn is_exponent(hex: bool, b: u8) -> bool
     ensures { result ≡ spell.is_exponent hex b }
 {
-    if hex { b == b'P' || b == b'p' } else { b == b'E' || b == b'e' }
+    if hex {
+        b == b'P' || b == b'p'
+    } else {
+        b == b'E' || b == b'e'
+    }
 }
 
 fn is_plus_minus(b: u8) -> bool

@@ -60,7 +60,10 @@ pub fn all(alloc: Global, script: &[u8]) -> Result<Vec<Token>, Stop<'_>>
         let here = gap(left);
         let (blanks, _) = left.split_at(left.len() - here.len());
         line += line_ends(blanks) as u32;
-        let place = Place { at: (script.len() - here.len()) as u32, line };
+        let place = Place {
+            at: (script.len() - here.len()) as u32,
+            line,
+        };
         let (what, rest) = spelling(alloc, here)?;
         let last = is_end(&what);
         line += lines(&what, here, rest) as u32;

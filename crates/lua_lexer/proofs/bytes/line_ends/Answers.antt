@@ -1,4 +1,4 @@
-use Rattle.std.proofs.Common.{◌≡◌, length, arith}
+use Rattle.std.proofs.Common.{arith}
 use Rattle.lua_lexer.proofs.LineEnds.{line_end}
 use Rattle.lua_lexer.proofs.LineEnds.{past_line_end_shorter}
 use Rattle.lua_lexer.proofs.bytes.line_ends.Goals as goal

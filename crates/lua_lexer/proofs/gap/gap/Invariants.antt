@@ -1,4 +1,4 @@
-use Rattle.std.proofs.Common.{◌≡◌, length, List, ℕ}
+use Rattle.std.proofs.Common.{length, List, ℕ}
 use Rattle.lua_lexer.specs.Tokens.{Skips}
 use Rattle.lua_lexer.proofs.gap.gap.Given as goal
 

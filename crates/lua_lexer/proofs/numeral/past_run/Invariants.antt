@@ -1,7 +1,4 @@
 use Rattle.std.proofs.Common.{◌≡◌, length}
-use Rattle.std.specs.Prelude.{true}
-use Rattle.std.specs.List.{list_all}
-use Rattle.lua_lexer.specs.Bytes.{past, is_digit}
 use Rattle.lua_lexer.specs.Spellings.{past_from}
 use Rattle.lua_lexer.proofs.numeral.past_run.Given as goal
 

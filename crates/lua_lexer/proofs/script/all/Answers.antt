@@ -1,9 +1,8 @@
-use Rattle.std.proofs.Common.{◌≡◌, ◌+◌, ◌-◌, ◌≤◌, ◌∙◌, sym, refl, ap, subst, arith, Ok, List, [], ◌∷◌, ◌++◌, length}
+use Rattle.std.proofs.Common.{◌≡◌, ◌+◌, ◌-◌, sym, refl, ap, subst, arith, length}
 use Rattle.lua_lexer.specs.Bytes.{line_ends}
-use Rattle.lua_lexer.specs.Tokens.{Lexes, Gap, line, place}
-use Rattle.lua_lexer.specs.Reading.{spelling, is_finish}
+use Rattle.lua_lexer.specs.Tokens.{Lexes, line}
 use Rattle.lua_lexer.specs.View.{lex, marks}
-use Rattle.lua_lexer.proofs.Fronts.{Suffix, suffix_short, suffix_trans}
+use Rattle.lua_lexer.proofs.Fronts.{suffix_short, suffix_trans}
 use Rattle.lua_lexer.proofs.Places.{first_lines, first_suffix, few_lines, gap_lines, gap_within, gap_suffix, token_suffix, token_shorter, line_placed}
 use Rattle.lua_lexer.proofs.Turns.{Goes, goes_more, stops_more, goes_last, stops_read, passed_on}
 use Rattle.lua_lexer.proofs.script.all.Goals as goal
@@ -47,9 +46,9 @@ returns-then-last c =
     let g = c.gap-here.ensures in
     let p = line_placed c.args.script.now c.loop-found.left.now c.gap-here.result.now c.loop-found.invariant.suffix g in
     let n : c.loop-found.line + c.line_ends.result ≡ line c.args.script.now c.gap-here.result.now =
-        omega (arith, p, c.loop-found.invariant.lines, c.line_ends.ensures.count, ap line_ends c.split_at.ensures.front, gap_lines c.loop-found.left.now c.gap-here.result.now g) in
+    omega (arith, p, c.loop-found.invariant.lines, c.line_ends.ensures.count, ap line_ends c.split_at.ensures.front, gap_lines c.loop-found.left.now c.gap-here.result.now g) in
     let t = goes_last c.args.script.now c.loop-found.found.items (record { what = c.in_ok-what.what; place = record { at = length c.args.script.now - length c.gap-here.result.now; line = c.loop-found.line + c.line_ends.result } })
-        c.loop-found.left.now c.gap-here.result.now c.in_ok-what.rest.now c.loop-found.invariant.goes g c.in_ok-what.ensures (sym c.if-last.ensures) refl n in
+    c.loop-found.left.now c.gap-here.result.now c.in_ok-what.rest.now c.loop-found.invariant.goes g c.in_ok-what.ensures (sym c.if-last.ensures) refl n in
     subst (λ z. Lexes c.args.script.now (marks z)) (sym c.in_ok-push.ensures.items) t
 
 pub loop-found-smaller : goal.loop-found-smaller
@@ -61,9 +60,9 @@ loop-found-preserved c =
     let g = c.gap-here.ensures in
     let p = line_placed c.args.script.now c.loop-found.left.now c.gap-here.result.now c.loop-found.invariant.suffix g in
     let n : c.loop-found.line + c.line_ends.result ≡ line c.args.script.now c.gap-here.result.now =
-        omega (arith, p, c.loop-found.invariant.lines, c.line_ends.ensures.count, ap line_ends c.split_at.ensures.front, gap_lines c.loop-found.left.now c.gap-here.result.now g) in
+    omega (arith, p, c.loop-found.invariant.lines, c.line_ends.ensures.count, ap line_ends c.split_at.ensures.front, gap_lines c.loop-found.left.now c.gap-here.result.now g) in
     let t = goes_more c.args.script.now c.loop-found.found.items (record { what = c.in_ok-what.what; place = record { at = length c.args.script.now - length c.gap-here.result.now; line = c.loop-found.line + c.line_ends.result } })
-        c.loop-found.left.now c.gap-here.result.now c.in_ok-what.rest.now c.loop-found.invariant.goes g c.in_ok-what.ensures (sym c.if-last.ensures) refl n in
+    c.loop-found.left.now c.gap-here.result.now c.in_ok-what.rest.now c.loop-found.invariant.goes g c.in_ok-what.ensures (sym c.if-last.ensures) refl n in
     record {
       goes = subst (λ z. Goes c.args.script.now z c.in_ok-what.rest.now) (sym c.in_ok-push.ensures.items) t;
       stops = stops_more c.args.script.now c.loop-found.left.now c.gap-here.result.now c.in_ok-what.rest.now (lex c.in_ok-what.what) c.loop-found.invariant.stops g c.in_ok-what.ensures (sym c.if-last.ensures);

@@ -1,4 +1,3 @@
-use Rattle.std.proofs.Common.{◌≡◌, sym, ◌∙◌, ap, Ok}
 use Rattle.lua_lexer.proofs.LineEnds.{feeds_line}
 use Rattle.lua_lexer.proofs.text.line_feeds.Goals as goal
 

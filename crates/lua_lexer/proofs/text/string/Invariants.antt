@@ -1,4 +1,4 @@
-use Rattle.std.proofs.Common.{◌≡◌, ◌++◌, length, List, ℕ}
+use Rattle.std.proofs.Common.{◌++◌, length, List, ℕ}
 use Rattle.lua_lexer.specs.declared.stop.Why.{Why}
 use Rattle.lua_lexer.specs.Spellings.{Quoted, Broken}
 use Rattle.lua_lexer.proofs.text.string.Given as goal

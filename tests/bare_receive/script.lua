@@ -1,0 +1,2 @@
+local lanes = require "lanes" local l = lanes.linda()
+l:receive("k")

@@ -1,0 +1,5 @@
+local lanes = require "lanes" local l = lanes.linda()
+l:send("k", 007)
+l:send("k", "a b")
+print(l:receive("k"))
+print(l:receive("k"))

@@ -1,0 +1,1 @@
+local lanes = require "lanes" local l = lanes.linda()

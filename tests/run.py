@@ -1,0 +1,108 @@
+#!/usr/bin/env python3
+"""Runs the scripts of tests/ on the built program, and closes with 'N passed, N failed'.
+
+A case is a folder with any of these files:
+    script.lua      the script; `words` is then 'script.lua' where it is not given
+    script.repeat   a count on the first line, and a text: the script is the text so many times
+    words           the words of the command line, one a line
+    stdin           what stands on standard input (nothing where it is missing)
+    output          'full' or 'closed', where standard output takes nothing
+    stdout, stderr  what must be written (nothing where they are missing)
+    status          the exit status that is wanted (0 where it is missing)
+
+With --after LOG the counts of a run of `rt ci` in LOG are added.
+"""
+import difflib
+import os
+import pathlib
+import re
+import shutil
+import subprocess
+import sys
+import tempfile
+
+TESTS = pathlib.Path(__file__).resolve().parent
+PROGRAM = TESTS.parent / "crates" / "lanes" / "out" / "lanes"
+SECONDS = 60
+
+
+def content(case, name):
+    path = case / name
+    return path.read_bytes() if path.is_file() else b""
+
+
+def prepare(case, folder):
+    """Copies the case and makes its script, where that is written as a repetition."""
+    shutil.copytree(case, folder, dirs_exist_ok=True)
+    repeat = folder / "script.repeat"
+    if repeat.is_file():
+        count, text = repeat.read_bytes().split(b"\n", 1)
+        (folder / "script.lua").write_bytes(text * int(count))
+
+
+def run(case):
+    """Runs one case, and answers what differs, as lines."""
+    words = case / "words"
+    arguments = words.read_text().splitlines() if words.is_file() else ["script.lua"]
+    output = content(case, "output").strip()
+    with tempfile.TemporaryDirectory() as name:
+        folder = pathlib.Path(name)
+        prepare(case, folder)
+        command = [str(PROGRAM), *arguments]
+        out = subprocess.PIPE
+        if output == b"full":
+            out = open("/dev/full", "wb")
+        elif output == b"closed":
+            command = ["sh", "-c", 'exec "$0" "$@" >&-', *command]
+        try:
+            ended = subprocess.run(command, cwd=folder, input=content(case, "stdin"), stdout=out,
+                                   stderr=subprocess.PIPE, timeout=SECONDS)
+        except subprocess.TimeoutExpired:
+            return [f"no end after {SECONDS} seconds"]
+    wanted = int(content(case, "status") or b"0")
+    lines = [] if ended.returncode == wanted else [f"status {ended.returncode}, wanted {wanted}"]
+    lines += differences("stdout", content(case, "stdout"), ended.stdout or b"")
+    lines += differences("stderr", content(case, "stderr"), ended.stderr)
+    return lines
+
+
+def differences(name, wanted, found):
+    if wanted == found:
+        return []
+    old = wanted.decode("utf-8", "backslashreplace").splitlines()
+    new = found.decode("utf-8", "backslashreplace").splitlines()
+    shown = list(difflib.unified_diff(old, new, f"{name} wanted", f"{name} found", lineterm=""))
+    return shown or [f"{name} differs in its line ends"]
+
+
+def counts_of(log):
+    """The counts of a run of `rt ci`: a run without its last line, or with another status than its counts say, failed."""
+    text = pathlib.Path(log).read_text(errors="replace")
+    counts = re.findall(r"^(\d+) passed, (\d+) failed", text, re.MULTILINE)
+    status = re.findall(r"^rt ci: status (\d+)$", text, re.MULTILINE)
+    if not counts or not status:
+        return 0, 1
+    passed, failed = (int(number) for number in counts[-1])
+    return passed, failed if failed or status[-1] == "0" else 1
+
+
+def main():
+    passed, failed = (0, 0)
+    if len(sys.argv) == 3 and sys.argv[1] == "--after":
+        passed, failed = counts_of(sys.argv[2])
+    elif len(sys.argv) != 1:
+        sys.exit("usage: run.py [--after LOG]")
+    if not os.access(PROGRAM, os.X_OK):
+        print(f"FAILED: the program is not built ({PROGRAM})")
+        failed += 1
+    else:
+        for case in sorted(path for path in TESTS.iterdir() if path.is_dir()):
+            lines = run(case)
+            passed, failed = (passed, failed + 1) if lines else (passed + 1, failed)
+            if lines:
+                print(f"FAILED: tests/{case.name}", *lines, sep="\n    ")
+    print(f"{passed} passed, {failed} failed")
+    return 1 if failed else 0
+
+
+sys.exit(main())
