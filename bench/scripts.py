@@ -1,0 +1,119 @@
+#!/usr/bin/env python3
+"""Times whole runs of the built program on large scripts, beside `luac5.4 -p` where that reads the same script.
+
+    bench/scripts.py [RUNS]
+
+Each script has at most 1,048,576 bytes. The time is the least of RUNS runs (10 where it is not given), with the output
+thrown away; the peak is the greatest resident memory of a run.
+"""
+import os
+import pathlib
+import random
+import resource
+import shutil
+import subprocess
+import sys
+import tempfile
+import time
+
+PROGRAM = pathlib.Path(__file__).resolve().parent.parent / "crates" / "lanes" / "out" / "lanes"
+OPENING = 'local lanes = require "lanes" local l = lanes.linda()\n'
+LIMIT = 1_048_576
+
+
+def first_form(keys):
+    """Sends and receives by turns over so many keys, up to the limit."""
+    names = ["".join(chr(97 + (n // 26 ** place) % 26) for place in range(4)) for n in range(keys)]
+    lines, size, turn = [OPENING], len(OPENING), 0
+    while True:
+        key = names[turn % keys]
+        pair = f'l:send("{key}", {turn})\nprint(l:receive("{key}"))\n'
+        if size + len(pair) > LIMIT:
+            return "".join(lines)
+        lines.append(pair)
+        size += len(pair)
+        turn += 1
+
+
+def sends_first():
+    """Sends to one key, and then as many receives."""
+    count = (LIMIT - len(OPENING)) // (len('l:send("k", 00000)\n') + len('print(l:receive("k"))\n'))
+    sends = "".join(f'l:send("k", {n:05})\n' for n in range(count))
+    return OPENING + sends + 'print(l:receive("k"))\n' * count
+
+
+def real_looking():
+    """Lua code as a person writes it: functions, tables, loops, strings and comments."""
+    source = random.Random(5)
+    words = "count index value total name item list node left right size limit buffer key result state".split()
+
+    def word():
+        return source.choice(words) + str(source.randrange(90))
+
+    parts, size = [], 0
+    while True:
+        a, b, c, d = word(), word(), word(), word()
+        n, m = source.randrange(10_000), source.randrange(100)
+        part = f"""-- keeps {a} and {b} in step
+function {a}({b}, {c})
+  local {d} = {{ {b}, {c}, size = {n}, ["{word()}"] = "{word()} {word()}\\n" }}
+  for i = 1, #{d} do
+    if {d}[i] ~= nil and {d}[i] > {m} then
+      {d}[i] = {d}[i] * {n} + ({b} // {m + 1}) % {c}
+    elseif {b} == '{word()}' or not {c} then
+      return {d}, 0x{n:x}
+    end
+  end
+  while {b} < {n} do {b} = {b} + 1 end
+  return function(x) return x .. "{word()}" .. {d}.size end
+end
+"""
+        if size + len(part) > LIMIT:
+            return "".join(parts)
+        parts.append(part)
+        size += len(part)
+
+
+def least(command, runs):
+    """The least time of a run in seconds, and the status."""
+    best, status = None, None
+    for _ in range(runs):
+        start = time.perf_counter()
+        status = subprocess.run(command, stdout=subprocess.DEVNULL, stderr=subprocess.DEVNULL).returncode
+        taken = time.perf_counter() - start
+        best = taken if best is None else min(best, taken)
+    return best, status
+
+
+def peak(command):
+    """The greatest resident memory of one run, in kilobytes."""
+    before = resource.getrusage(resource.RUSAGE_CHILDREN).ru_maxrss
+    pid = os.posix_spawn(command[0], command, os.environ,
+                         file_actions=[(os.POSIX_SPAWN_OPEN, 1, "/dev/null", os.O_WRONLY, 0),
+                                       (os.POSIX_SPAWN_OPEN, 2, "/dev/null", os.O_WRONLY, 0)])
+    _, _, used = os.wait4(pid, 0)
+    return used.ru_maxrss if before >= 0 else 0
+
+
+def main():
+    runs = int(sys.argv[1]) if len(sys.argv) > 1 else 10
+    scripts = [
+        ("sends and receives by turns, one key", first_form(1)),
+        ("sends and receives by turns, 10,000 keys", first_form(10_000)),
+        ("all sends of one key, then all receives", sends_first()),
+        ("Lua code (read, and refused as not built yet)", real_looking()),
+    ]
+    luac = shutil.which("luac5.4")
+    with tempfile.TemporaryDirectory() as folder:
+        for name, text in scripts:
+            path = os.path.join(folder, "script.lua")
+            pathlib.Path(path).write_text(text)
+            seconds, status = least([str(PROGRAM), path], runs)
+            line = f"{name}: {len(text)} bytes, {text.count(chr(10))} lines: {seconds * 1000:.1f} ms, status {status}"
+            line += f", peak {peak([str(PROGRAM), path]) / 1024:.1f} MiB"
+            if luac:
+                line += f"; luac5.4 -p {least([luac, '-p', path], runs)[0] * 1000:.1f} ms"
+            print(line)
+
+
+main()

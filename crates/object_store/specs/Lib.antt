@@ -1,0 +1,9 @@
+pub mod Closed
+pub mod Fault
+pub mod Heap
+pub mod Kind
+pub mod LendsObject
+pub mod Pairs
+pub mod Run
+pub mod Table
+pub mod Value
