@@ -1,0 +1,11 @@
+pub mod Tokens
+pub mod Written
+pub mod Spelling
+pub mod Formed
+pub mod Erasure
+pub mod Depth
+pub mod Grammar
+pub mod Next
+pub mod Input
+pub mod Expressions
+pub mod Statements

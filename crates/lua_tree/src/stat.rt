@@ -1,0 +1,61 @@
+//! Statements and blocks.
+
+use crate::expr::Expr;
+use lanes_arena::{Bytes, Row};
+use lua_tokens::Place;
+use sqlite_items::Items;
+
+/// A script: its main block (manual, section 3.3.2).
+#[derive(Debug, Drop)]
+pub struct Tree {
+    pub block: Block,
+}
+
+/// A list of statements (manual, section 3.3.1). An empty statement is left out.
+#[cycle(tree)]
+#[derive(Debug, Drop)]
+pub struct Block {
+    pub stats: Items<Stat>,
+}
+
+/// A condition of an `if` statement and the block that it guards (manual, section 3.3.4).
+#[cycle(tree)]
+#[derive(Debug, Drop)]
+pub struct Branch {
+    pub condition: Expr,
+    pub block: Block,
+}
+
+/// What a function does (manual, section 3.4.11): its parameters, whether `...` is the last of them, its block, and the line of
+/// its word `function`. A function that is declared with a `:` has a first parameter `self`, at the place of the method's name.
+#[cycle(tree)]
+#[derive(Debug, Drop)]
+pub struct Body {
+    pub params: Row<(Bytes, Place)>,
+    pub vararg: bool,
+    pub block: Block,
+    pub line: u32,
+}
+
+/// A statement (manual, sections 3.3 and 3.4.11). The place beside a declared name is that of its token.
+#[cycle(tree)]
+#[derive(Debug, Drop)]
+pub enum Stat {
+    /// The names, each with whether it is `<const>`, and their values.
+    Local(Row<(Bytes, bool, Place)>, Items<Expr>),
+    /// The targets and their values. A `function` statement is one too.
+    Assign(Items<Expr>, Items<Expr>),
+    Call(Expr),
+    Do(Block),
+    While(Expr, Block),
+    Repeat(Block, Expr),
+    /// A branch for `if` and for each `elseif`, and the block of `else`.
+    If(Items<Branch>, Option<Block>),
+    /// The variable, the start, the limit, the step and the block.
+    ForNum(Bytes, Place, Expr, Expr, Option<Expr>, Block),
+    /// The variables, the values that give the iterator, and the block.
+    ForIn(Row<(Bytes, Place)>, Items<Expr>, Block),
+    LocalFunction(Bytes, Place, Body),
+    Return(Items<Expr>),
+    Break(Place),
+}
