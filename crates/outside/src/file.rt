@@ -1,5 +1,7 @@
 //! The trusted edge: a source over any reader of std, and a sink over any writer. A real file tells no content.
 
+ghost use Rattle.std.specs.Prelude.{◌≡◌};
+
 use crate::sink::{Sink, WriteFault};
 use crate::source::{ReadFault, Source};
 use std::io::{Read, Write};
@@ -12,7 +14,10 @@ pub struct FileIn<R> {
 }
 
 impl<R> FileIn<R> {
-    pub fn new(inner: R) -> FileIn<R> {
+    /// This reader, with no fault so far.
+    pub fn new(inner: R) -> FileIn<R>
+        ensures { result ≡ record { inner = inner; faults = 0 } }
+    {
         FileIn { inner, faults: 0 }
     }
 }
@@ -41,7 +46,10 @@ pub struct FileOut<W> {
 }
 
 impl<W> FileOut<W> {
-    pub fn new(inner: W) -> FileOut<W> {
+    /// This writer, with no fault so far.
+    pub fn new(inner: W) -> FileOut<W>
+        ensures { result ≡ record { inner = inner; faults = 0 } }
+    {
         FileOut { inner, faults: 0 }
     }
 }
