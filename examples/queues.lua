@@ -1,0 +1,7 @@
+local lanes = require "lanes" local l = lanes.linda()
+l:send("fruit", "green apple")
+l:send("count", 3)
+l:send("fruit", "pear")
+print(l:receive("fruit"))
+print(l:receive("fruit"))
+print(l:receive("count"))
