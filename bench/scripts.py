@@ -9,7 +9,6 @@ thrown away; the peak is the greatest resident memory of a run.
 import os
 import pathlib
 import random
-import resource
 import shutil
 import subprocess
 import sys
@@ -87,12 +86,11 @@ def least(command, runs):
 
 def peak(command):
     """The greatest resident memory of one run, in kilobytes."""
-    before = resource.getrusage(resource.RUSAGE_CHILDREN).ru_maxrss
     pid = os.posix_spawn(command[0], command, os.environ,
                          file_actions=[(os.POSIX_SPAWN_OPEN, 1, "/dev/null", os.O_WRONLY, 0),
                                        (os.POSIX_SPAWN_OPEN, 2, "/dev/null", os.O_WRONLY, 0)])
     _, _, used = os.wait4(pid, 0)
-    return used.ru_maxrss if before >= 0 else 0
+    return used.ru_maxrss
 
 
 def main():
