@@ -1,14 +1,12 @@
 -- What the script's linda holds after some lines, and what the next line gets.
-use Rattle.std.proofs.Common.{◌≡◌, ◌<◌, ◌≤◌, ◌+◌, ◌-◌, ℕ, suc, Bool, true, false, cond, if◌then◌else◌, nat_lt, List, [], ◌∷◌, ◌++◌, length, take, drop, get_or, find, Option, None, Some, ap, sym, refl, subst, ◌∙◌, arith, length-append, length-drop, drop-cons, drop-drop, add-one, ◌||◌}
+use Rattle.std.proofs.Common.{◌≡◌, ◌<◌, ◌≤◌, ◌+◌, ◌-◌, ℕ, suc, Bool, true, false, cond, if◌then◌else◌, List, [], ◌∷◌, ◌++◌, length, take, drop, find, None, Some, ap, sym, refl, subst, ◌∙◌, arith, length-append, length-drop, drop-cons, drop-drop, add-one, ◌||◌}
 use Rattle.std.proofs.lemmas.Bool.Decides.{nat_tests}
 use Rattle.std.proofs.lemmas.List.{drop-append-le}
-use Rattle.std.specs.List.{list_any}
 use Rattle.std.specs.Str.{bytes_eq}
 use Rattle.linda_core.specs.declared.item.Item.{Item}
-use Rattle.linda_core.specs.declared.key.Key.{Key}
 use Rattle.linda_core.specs.declared.key.Key.TheVariants.{Text as Named}
 use Rattle.linda_core.specs.declared.call.LindaReply.{LindaReply}
-use Rattle.linda_core.specs.declared.call.LindaReply.TheVariants.{Sent, Got}
+use Rattle.linda_core.specs.declared.call.LindaReply.TheVariants.{Got}
 use Rattle.linda_core.specs.declared.call.Ending.TheVariants.{Served}
 use Rattle.linda_core.specs.SequentialLinda.{Content, Known, key_eq, held_by, queue_of, has_value, is_within, fits, got_first, without_first, with_queue, Steps}
 use Rattle.linda_core.proofs.KeyLemmas.{held_by-with_held}

@@ -31,11 +31,11 @@ fn op_of(alloc: Global, line: &Line) -> Result<LindaOp, Memory>
 {
     match line {
         Line::Send { key, value } => Ok(LindaOp::Send {
-            key: Key::Text(key.copy(alloc)?),
-            values: Row::of(vec![in alloc; value.copy(alloc)?]?),
+            key: Key::Text(key.copy()?),
+            values: Row::of(vec![in alloc; value.copy()?]?),
         }),
         Line::Receive { key } => Ok(LindaOp::Receive {
-            keys: Row::of(vec![in alloc; Key::Text(key.copy(alloc)?)]?),
+            keys: Row::of(vec![in alloc; Key::Text(key.copy()?)]?),
         }),
     }
 }

@@ -13,6 +13,7 @@ use crate::lines::{LineStop, run_lines};
 use crate::reading::{ReadEnd, read_script};
 use crate::refusal::Refusal;
 use first_form::{Line, lines_of};
+use lanes_arena::Bytes;
 use lua_lexer::{LexFault, tokens};
 use outside::{Sink, Source};
 use std::alloc::Global;
@@ -43,7 +44,10 @@ pub fn run_script<I: Source, O: Sink>(
     ensures kept { (MayChange result → ⊥) → Keeps (O.taken output.old) (O.taken output.new) × (calls.new.items ≡ []) }
 {
     match read_script(alloc, input) {
-        Ok(script) => run_text(alloc, &script, output, calls),
+        Ok(script) => match Bytes::from_vec(script) {
+            Ok(script) => run_text(alloc, &script, output, calls),
+            Err(_) => End::Memory,
+        },
         Err(ReadEnd::Fault) => End::ReadFault,
         Err(ReadEnd::TooLong) => End::Refused(Refusal::TooLong),
         Err(ReadEnd::Memory) => End::Memory,
@@ -51,7 +55,7 @@ pub fn run_script<I: Source, O: Sink>(
 }
 
 // Runs a script of lawful length.
-fn run_text<O: Sink>(alloc: Global, script: &[u8], output: &mut O, calls: &mut Vec<Call>) -> End
+fn run_text<O: Sink>(alloc: Global, script: &Bytes, output: &mut O, calls: &mut Vec<Call>) -> End
     requires short { length script.now ≤ 1048576 }
     requires empty { calls.old.items ≡ [] }
     ensures write { TellsFaults (O.faults output.old) (O.faults output.new) (result ≡ End.WriteFault) }
@@ -72,7 +76,7 @@ fn run_text<O: Sink>(alloc: Global, script: &[u8], output: &mut O, calls: &mut V
 }
 
 // The lines of a script that runs, or how its run ends at once: refused, or for want of memory.
-fn accepted(alloc: Global, script: &[u8]) -> Result<Vec<Line>, End>
+fn accepted(alloc: Global, script: &Bytes) -> Result<Vec<Line>, End>
     requires { length script.now ≤ 1048576 }
     ensures lines { IfOk result (λ lines. IsFirstForm script.now lines.items) }
     ensures refused { (refusal : Refusal) → result ≡ Err (End.Refused refusal) → Refuses script.now refusal }
@@ -83,7 +87,7 @@ fn accepted(alloc: Global, script: &[u8]) -> Result<Vec<Line>, End>
         Err(LexFault::TooLong | LexFault::Memory) => return Err(End::Memory),
         Err(fault) => return Err(End::Refused(Refusal::Lexical(fault))),
     }
-    match lines_of(alloc, script) {
+    match lines_of(alloc, script.as_slice()) {
         Ok(Some(lines)) => Ok(lines),
         Ok(None) => Err(End::Refused(Refusal::NotBuilt)),
         Err(_) => Err(End::Memory),

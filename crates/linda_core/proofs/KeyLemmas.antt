@@ -1,5 +1,5 @@
 -- Keys are one where they are equal, and what a key has after a change of one key.
-use Rattle.std.proofs.Common.{◌≡◌, Decides, Bool, true, false, cond, if◌then◌else◌, List, [], ◌∷◌, Option, None, Some, refl, ap, sym, subst, ◌∙◌, true≢false, rules}
+use Rattle.std.proofs.Common.{◌≡◌, Decides, Bool, true, false, cond, if◌then◌else◌, [], ◌∷◌, Option, Some, refl, ap, sym, subst, ◌∙◌, true≢false, rules}
 use Rattle.std.specs.Map.{lookup}
 use Rattle.std.specs.Option.{unwrap_or}
 use Rattle.indexmap.specs.IndexMap.{insert_entry}

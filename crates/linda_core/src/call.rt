@@ -71,27 +71,27 @@ impl LindaOp {
     {
         match self {
             LindaOp::Send { key, values } => Ok(LindaOp::Send {
-                key: key.copy(alloc)?,
+                key: key.copy()?,
                 values: Row::of(copy_items(alloc, values.as_slice())?),
             }),
             LindaOp::Receive { keys } => Ok(LindaOp::Receive {
                 keys: Row::of(copy_keys(alloc, keys.as_slice())?),
             }),
             LindaOp::Batch { key, min, max } => Ok(LindaOp::Batch {
-                key: key.copy(alloc)?,
+                key: key.copy()?,
                 min: *min,
                 max: *max,
             }),
             LindaOp::Limit { key, limit } => Ok(LindaOp::Limit {
-                key: key.copy(alloc)?,
+                key: key.copy()?,
                 limit: *limit,
             }),
             LindaOp::Set { key, values } => Ok(LindaOp::Set {
-                key: key.copy(alloc)?,
+                key: key.copy()?,
                 values: Row::of(copy_items(alloc, values.as_slice())?),
             }),
             LindaOp::Get { key, count } => Ok(LindaOp::Get {
-                key: key.copy(alloc)?,
+                key: key.copy()?,
                 count: *count,
             }),
             LindaOp::Count { keys } => Ok(LindaOp::Count {
@@ -110,7 +110,7 @@ impl LindaReply {
             LindaReply::Sent => Ok(LindaReply::Sent),
             LindaReply::Full => Ok(LindaReply::Full),
             LindaReply::Got { key, values } => Ok(LindaReply::Got {
-                key: key.copy(alloc)?,
+                key: key.copy()?,
                 values: Row::of(copy_items(alloc, values.as_slice())?),
             }),
             LindaReply::Short => Ok(LindaReply::Short),

@@ -11,7 +11,7 @@ pub fn copy_items(alloc: Global, items: &[Item]) -> Result<Vec<Item>, Memory>
 {
     let mut copies = Vec::with_capacity(alloc, items.len())?;
     for item in items {
-        copies.push(item.copy(alloc)?)?;
+        copies.push(item.copy()?)?;
     }
     Ok(copies)
 }
@@ -21,7 +21,7 @@ pub fn copy_keys(alloc: Global, keys: &[Key]) -> Result<Vec<Key>, Memory>
 {
     let mut copies = Vec::with_capacity(alloc, keys.len())?;
     for key in keys {
-        copies.push(key.copy(alloc)?)?;
+        copies.push(key.copy()?)?;
     }
     Ok(copies)
 }
@@ -31,7 +31,7 @@ pub fn copy_counts(alloc: Global, counts: &[(Key, u64)]) -> Result<Vec<(Key, u64
 {
     let mut copies = Vec::with_capacity(alloc, counts.len())?;
     for (key, count) in counts {
-        copies.push((key.copy(alloc)?, *count))?;
+        copies.push((key.copy()?, *count))?;
     }
     Ok(copies)
 }

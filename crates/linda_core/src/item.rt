@@ -2,7 +2,6 @@
 ghost use Rattle.std.specs.Prelude.{◌≡◌, IfOk};
 
 use lanes_arena::{Bytes, Memory};
-use std::alloc::Global;
 
 /// A value on its way through a linda.
 #[derive(Debug, Drop, PartialEq, Eq)]
@@ -12,13 +11,13 @@ pub enum Item {
 }
 
 impl Item {
-    /// A second value that shows the same. The only refusal is want of memory.
-    pub fn copy(&self, alloc: Global) -> Result<Item, Memory>
+    /// A second value that shows the same, and shares its text with this one.
+    pub fn copy(&self) -> Result<Item, Memory>
         ensures { IfOk result (λ item. item ≡ self.now) }
     {
         match self {
             Item::Int(number) => Ok(Item::Int(*number)),
-            Item::Text(text) => Ok(Item::Text(text.copy(alloc)?)),
+            Item::Text(text) => Ok(Item::Text(text.copy()?)),
         }
     }
 }

@@ -2,7 +2,6 @@
 ghost use Rattle.std.specs.Prelude.{◌≡◌, IfOk};
 
 use lanes_arena::{Bytes, Memory};
-use std::alloc::Global;
 
 /// A key of a linda. Keys of another kind are refused before they become one.
 #[derive(Debug, Drop, PartialEq, Eq, Hash)]
@@ -13,13 +12,13 @@ pub enum Key {
 }
 
 impl Key {
-    /// A second key that shows the same. The only refusal is want of memory.
-    pub fn copy(&self, alloc: Global) -> Result<Key, Memory>
+    /// A second key that shows the same, and shares its text with this one.
+    pub fn copy(&self) -> Result<Key, Memory>
         ensures { IfOk result (λ key. key ≡ self.now) }
     {
         match self {
             Key::Int(number) => Ok(Key::Int(*number)),
-            Key::Text(text) => Ok(Key::Text(text.copy(alloc)?)),
+            Key::Text(text) => Ok(Key::Text(text.copy()?)),
             Key::Bool(truth) => Ok(Key::Bool(*truth)),
         }
     }

@@ -77,7 +77,7 @@ pub(crate) fn room_to_send(
         None => {
             queues.reserve(1)?;
             Prepared::Begin {
-                key: key.copy(alloc)?,
+                key: key.copy()?,
                 values: copies,
             }
         }
@@ -97,7 +97,7 @@ pub(crate) fn room_to_receive(
         Some((place, key)) => Ok(Room {
             prepared: Prepared::Take {
                 place,
-                key: key.copy(alloc)?,
+                key: key.copy()?,
                 reply: Vec::with_capacity(alloc, 1)?,
             },
         }),

@@ -98,67 +98,84 @@ fn refuses_unlawful_operations(rt: HostRuntime) -> Result<(), Memory> {
     Ok(())
 }
 
-fn each_op(alloc: Global) -> Result<Vec<LindaOp>, Memory> {
-    Ok(vec![in alloc;
-        send(alloc, b"k", 5)?,
-        receive(alloc, b"k")?,
-        LindaOp::Batch {
-            key: Key::Bool(true),
-            min: 1,
-            max: 2
-        },
-        LindaOp::Limit {
-            key: Key::Int(-3),
-            limit: Some(4)
-        },
-        LindaOp::Set {
-            key: Key::Bool(false),
-            values: Row::of(vec![in alloc; Item::Text(Bytes::of(alloc, b"text")?)]?),
-        },
-        LindaOp::Get {
-            key: Key::Int(9),
-            count: 6
-        },
-        LindaOp::Count {
-            keys: Row::of(vec![in alloc; Key::Int(1), text_key(alloc, b"z")?]?)
-        },
-    ]?)
+/// Whether a copy of a call shows the same.
+fn copies_call(alloc: Global, op: LindaOp) -> Result<bool, Memory> {
+    let call = BankCall { linda: 11, op };
+    let copy = call.copy(alloc)?;
+    let shown = format!(in alloc; "{call:?}")?;
+    Ok(shown.as_str() == format!(in alloc; "{copy:?}")?.as_str())
 }
 
-fn each_reply(alloc: Global) -> Result<Vec<LindaReply>, Memory> {
-    Ok(vec![in alloc;
-        LindaReply::Sent,
-        LindaReply::Full,
-        LindaReply::Got {
-            key: text_key(alloc, b"k")?,
-            values: Row::of(vec![in alloc; Item::Int(7)]?),
-        },
-        LindaReply::Short,
-        LindaReply::Values(Row::of(vec![in alloc; Item::Text(Bytes::of(alloc, b"v")?)]?)),
-        LindaReply::Room(true),
-        LindaReply::Counts(Row::of(vec![in alloc; (Key::Int(2), 3)]?)),
-        LindaReply::Done,
-        LindaReply::Withdrawn,
-    ]?)
+/// Whether a copy of a reply shows the same.
+fn copies_reply(alloc: Global, reply: LindaReply) -> Result<bool, Memory> {
+    let copy = reply.copy(alloc)?;
+    let shown = format!(in alloc; "{reply:?}")?;
+    Ok(shown.as_str() == format!(in alloc; "{copy:?}")?.as_str())
+}
+
+fn text_row(alloc: Global, text: &[u8]) -> Result<Row<Item>, Memory> {
+    Ok(Row::of(vec![in alloc; Item::Text(Bytes::of(alloc, text)?)]?))
 }
 
 #[test]
-fn copies_each_variant(rt: HostRuntime) -> Result<(), Memory> {
+fn copies_operations_with_values(rt: HostRuntime) -> Result<(), Memory> {
     let alloc = rt.alloc();
-    for op in each_op(alloc)? {
-        let call = BankCall { linda: 11, op };
-        let copy = call.copy(alloc)?;
-        assert_eq!(rt;
-            format!(in alloc; "{call:?}")?.as_str(),
-            format!(in alloc; "{copy:?}")?.as_str()
-        );
-    }
-    for reply in each_reply(alloc)? {
-        let copy = reply.copy(alloc)?;
-        assert_eq!(rt;
-            format!(in alloc; "{reply:?}")?.as_str(),
-            format!(in alloc; "{copy:?}")?.as_str()
-        );
+    assert!(rt; copies_call(alloc, send(alloc, b"k", 5)?)?);
+    assert!(rt; copies_call(alloc, receive(alloc, b"k")?)?);
+    let values = text_row(alloc, b"text")?;
+    let key = Key::Bool(false);
+    assert!(rt; copies_call(alloc, LindaOp::Set { key, values })?);
+    Ok(())
+}
+
+#[test]
+fn copies_operations_with_counts(rt: HostRuntime) -> Result<(), Memory> {
+    let alloc = rt.alloc();
+    let batch = LindaOp::Batch {
+        key: Key::Bool(true),
+        min: 1,
+        max: 2,
+    };
+    assert!(rt; copies_call(alloc, batch)?);
+    let limit = LindaOp::Limit {
+        key: Key::Int(-3),
+        limit: Some(4),
+    };
+    assert!(rt; copies_call(alloc, limit)?);
+    let get = LindaOp::Get {
+        key: Key::Int(9),
+        count: 6,
+    };
+    assert!(rt; copies_call(alloc, get)?);
+    let keys = Row::of(vec![in alloc; Key::Int(1)]?);
+    assert!(rt; copies_call(alloc, LindaOp::Count { keys })?);
+    Ok(())
+}
+
+#[test]
+fn copies_replies_with_values(rt: HostRuntime) -> Result<(), Memory> {
+    let alloc = rt.alloc();
+    let key = text_key(alloc, b"k")?;
+    let values = text_row(alloc, b"v")?;
+    assert!(rt; copies_reply(alloc, LindaReply::Got { key, values })?);
+    assert!(rt; copies_reply(alloc, LindaReply::Values(text_row(alloc, b"v")?))?);
+    let counts = Row::of(vec![in alloc; (Key::Int(2), 3)]?);
+    assert!(rt; copies_reply(alloc, LindaReply::Counts(counts))?);
+    Ok(())
+}
+
+#[test]
+fn copies_plain_replies(rt: HostRuntime) -> Result<(), Memory> {
+    let alloc = rt.alloc();
+    for reply in [
+        LindaReply::Sent,
+        LindaReply::Full,
+        LindaReply::Short,
+        LindaReply::Room(true),
+        LindaReply::Done,
+        LindaReply::Withdrawn,
+    ] {
+        assert!(rt; copies_reply(alloc, reply)?);
     }
     Ok(())
 }

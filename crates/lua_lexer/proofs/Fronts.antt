@@ -3,8 +3,8 @@ use Rattle.std.proofs.Common.{◌≡◌, refl, sym, ◌∙◌, ap, ℕ, ◌+◌,
 use Rattle.std.specs.List.{list_all}
 use Rattle.std.proofs.lemmas.Bool.{eqb-true}
 use Rattle.std.proofs.lemmas.List.{take-append-drop}
-use Rattle.lua_lexer.specs.Bytes.{run, past, is_word, is_inline, is_line_end, is_pair, line_ends, past_line_end}
-use Rattle.lua_lexer.proofs.Runs.{run_past, front_cut}
+use Rattle.lua_lexer.specs.Bytes.{run, past, is_word, is_inline, is_line_end, is_pair, line_ends, past_line_end, EndsWith}
+use Rattle.lua_lexer.proofs.Runs.{run_past, front_cut, back_cut}
 use Rattle.lua_lexer.proofs.LineEnds.{other_first, Starts, lines_append}
 
 pub record Suffix (bs rest : List ℕ) : Type 0 where
@@ -28,6 +28,9 @@ suffix_drop n bs = record { front = take n bs; whole = sym (take-append-drop n b
 
 pub suffix_short : (bs rest : List ℕ) → Suffix bs rest → length rest ≤ length bs
 suffix_short bs rest s = omega (arith, length-append {A = ℕ}, ap length s.whole)
+
+pub suffix_ends : (bs rest : List ℕ) → Suffix bs rest → EndsWith bs rest
+suffix_ends bs rest s = (suffix_short bs rest s, back_cut s.front rest bs (sym s.whole))
 
 -- ---- bytes that are no line ends
 

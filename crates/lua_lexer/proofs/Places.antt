@@ -3,6 +3,8 @@ use Rattle.std.proofs.Common.{◌≡◌, refl, sym, ◌∙◌, ap, subst, ℕ, z
 use Rattle.std.specs.List.{list_all}
 use Rattle.std.proofs.lemmas.Bool.{eqb-true}
 use Rattle.lua_tokens.specs.declared.Token.{Token}
+use Rattle.lua_tokens.specs.declared.Lexeme.{Lexeme}
+use Rattle.lua_tokens.specs.declared.Lexeme.TheVariants as lexeme
 use Rattle.lua_lexer.specs.Bytes.{run, past, is_blank, is_inline, is_equals, is_line_end, is_word, is_digit, is_letter, is_pair, is_quote, line_ends, line_feeds, past_line_end}
 use Rattle.lua_lexer.specs.Spellings as l
 use Rattle.lua_lexer.specs.Tokens.{Lex, name, int, text, word, sign, Skips, none, blank, remark, Gap, begins_blank, Stands, a_name, a_word, an_integer, a_sign, a_string, a_bracket, place, line, mark, past_first}
@@ -301,3 +303,19 @@ marked xs t script here x e a n = marks_more xs t ∙ ap (λ z. marks xs ++ z �
   where
     same : token t ≡ mark script here x
     same = rw (e, a, n) refl
+
+-- ---- the end
+
+pub finish_seen : (what : Lexeme) (b : Bool) → ((b ≡ true) → what ≡ lexeme.End) × (what ≡ lexeme.End → b ≡ true) → is_finish (lex what) ≡ b
+finish_seen lexeme.End true h = refl
+finish_seen lexeme.End false h = sym (h.1 refl)
+finish_seen (lexeme.Name n) true h = (let e : lexeme.Name n ≡ lexeme.End = h.0 refl in cc)
+finish_seen (lexeme.Int n) true h = (let e : lexeme.Int n ≡ lexeme.End = h.0 refl in cc)
+finish_seen (lexeme.Text n) true h = (let e : lexeme.Text n ≡ lexeme.End = h.0 refl in cc)
+finish_seen (lexeme.Word n) true h = (let e : lexeme.Word n ≡ lexeme.End = h.0 refl in cc)
+finish_seen (lexeme.Sign n) true h = (let e : lexeme.Sign n ≡ lexeme.End = h.0 refl in cc)
+finish_seen (lexeme.Name n) false h = refl
+finish_seen (lexeme.Int n) false h = refl
+finish_seen (lexeme.Text n) false h = refl
+finish_seen (lexeme.Word n) false h = refl
+finish_seen (lexeme.Sign n) false h = refl

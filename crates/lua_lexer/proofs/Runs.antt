@@ -1,7 +1,8 @@
 -- Runs of bytes of a kind.
-use Rattle.std.proofs.Common.{◌≡◌, refl, ap, ℕ, ◌≤◌, Bool, true, false, if◌then◌else◌, List, [], ◌∷◌, ◌++◌, length, take, drop, length-append, ◌-◌, arith}
-use Rattle.lua_lexer.specs.Bytes.{run, past}
+use Rattle.std.proofs.Common.{◌≡◌, ◌∙◌, refl, ap, subst, ℕ, ◌+◌, min, ◌≤◌, Bool, true, false, if◌then◌else◌, List, [], ◌∷◌, ◌++◌, length, take, drop, length-append, ◌-◌, arith}
+use Rattle.lua_lexer.specs.Bytes.{run, past, is_word, EndsWith}
 use Rattle.std.proofs.Math.Seq.{take-append_seam, drop-append_seam}
+use Rattle.std.proofs.lemmas.List.{length-take}
 use Rattle.lua_lexer.specs.Spellings.{in_run, run_from, past_from}
 
 module _ (p : ℕ → Bool) where
@@ -37,7 +38,7 @@ length_cut a b bs e = omega (arith, length-append {A = ℕ}, ap length e)
 pub front_cut : (a b bs : List ℕ) → a ++ b ≡ bs → take (length bs - length b) bs ≡ a
 front_cut a b bs e = rw (length_cut a b bs e, ← e) (take-append_seam a b)
 
-back_cut : (a b bs : List ℕ) → a ++ b ≡ bs → drop (length bs - length b) bs ≡ b
+pub back_cut : (a b bs : List ℕ) → a ++ b ≡ bs → drop (length bs - length b) bs ≡ b
 back_cut a b bs e = rw (length_cut a b bs e, ← e) (drop-append_seam a b)
 
 pub run_cut : (p : ℕ → Bool) (bs rest : List ℕ) → rest ≡ past p bs → take (length bs - length rest) bs ≡ run p bs
@@ -69,3 +70,24 @@ pub numeral_short : (hex : Bool) (bs rest : List ℕ) → rest ≡ past_from hex
 numeral_short hex bs rest e = omega (arith, length-append {A = ℕ}, ap length (numeral_whole hex 0 bs), ap length e)
 
 pub ruleset numeral_rules = (numeral_cut, past_from_cut, numeral_short)
+
+-- ---- a text that begins what ends a script
+
+shared_short : (bs text : List ℕ) → take (length text) bs ≡ text → length text ≤ length bs
+shared_short bs text e = (let k : length (take (length text) bs) ≡ min (length text) (length bs) = length-take (length text) bs in omega (arith, k, ap length e))
+
+pub shared_start : (script bs : List ℕ) → EndsWith script bs → length bs ≤ length script
+shared_start script bs h = h.0
+
+pub shared_end : (script bs text : List ℕ) → EndsWith script bs → take (length text) bs ≡ text → length script - length bs + length text ≤ length script
+shared_end script bs text h e = omega (arith, h.0, shared_short bs text e)
+
+pub shared_text : (script bs text : List ℕ) → EndsWith script bs → take (length text) bs ≡ text → take (length script - length bs + length text - (length script - length bs)) (drop (length script - length bs) script) ≡ text
+shared_text script bs text h e =
+    (let n : length script - length bs + length text - (length script - length bs) ≡ length text = omega arith in
+    ap (λ k. take k (drop (length script - length bs) script)) n ∙ ap (take (length text)) h.1 ∙ e)
+
+pub ruleset shared_rules = (shared_start, shared_end, shared_text)
+
+pub run_front : (bs text : List ℕ) → text ≡ run is_word bs → take (length text) bs ≡ text
+run_front bs text e = rw e (subst (λ z. take (length (run is_word bs)) z ≡ run is_word bs) (run_past is_word bs) (take-append_seam (run is_word bs) (past is_word bs)))

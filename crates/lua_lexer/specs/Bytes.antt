@@ -1,5 +1,5 @@
 -- Kinds of bytes, runs of them, and line ends (Lua manual, section 3.1).
-use Rattle.std.specs.Prelude.{ℕ, suc, Bool, if◌then◌else◌, nat_le, nat_eq, ◌||◌, ◌&&◌, not, List, [], ◌∷◌}
+use Rattle.std.specs.Prelude.{◌≡◌, ℕ, suc, ◌≤◌, ◌-◌, Bool, if◌then◌else◌, nat_le, nat_eq, ◌||◌, ◌&&◌, not, List, [], ◌∷◌, length, drop}
 
 abbrev pub is_digit : ℕ → Bool
 is_digit b = nat_le 48 b && nat_le b 57
@@ -61,3 +61,7 @@ abbrev pub past_line_end : List ℕ → List ℕ
 past_line_end [] = []
 past_line_end (b ∷ []) = if is_line_end b then [] else b ∷ []
 past_line_end (b ∷ c ∷ bs) = if is_pair b c then bs else (if is_line_end b then c ∷ bs else b ∷ c ∷ bs)
+
+-- the bytes end with these
+abbrev pub EndsWith : List ℕ → List ℕ → Type 0
+EndsWith script bytes = (length bytes ≤ length script) × (drop (length script - length bytes) script ≡ bytes)

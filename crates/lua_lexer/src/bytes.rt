@@ -13,13 +13,15 @@ pub fn is_digit(b: u8) -> bool
 pub fn is_letter(b: u8) -> bool
     ensures { result ≡ spec.is_letter b }
 {
-    (b'a' <= b && b <= b'z') || (b'A' <= b && b <= b'Z') || b == b'_'
+    let small = b'a' <= b && b <= b'z';
+    let capital = b'A' <= b && b <= b'Z';
+    small | capital | (b == b'_')
 }
 
 pub fn is_word(b: u8) -> bool
     ensures { result ≡ spec.is_word b }
 {
-    is_letter(b) || is_digit(b)
+    is_letter(b) | is_digit(b)
 }
 
 pub fn is_hex_digit(b: u8) -> bool

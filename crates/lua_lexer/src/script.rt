@@ -10,6 +10,7 @@ use crate::bytes::{line_ends, next, past_line};
 use crate::gap::gap;
 use crate::spelling::spelling;
 use crate::stop::Stop;
+use lanes_arena::Bytes;
 use lua_tokens::{Lexeme, Place, Token};
 use std::alloc::Global;
 
@@ -21,15 +22,6 @@ fn past_first(script: &[u8]) -> &[u8]
         None => script,
         Some((b'#', rest)) => past_line(rest),
         Some(_) => script,
-    }
-}
-
-fn is_end(what: &Lexeme) -> bool
-    ensures { result ≡ read.is_finish (lex what.now) }
-{
-    match what {
-        Lexeme::End => true,
-        _ => false,
     }
 }
 
@@ -48,9 +40,10 @@ fn lines(what: &Lexeme, here: &[u8], rest: &[u8]) -> usize
     }
 }
 
-/// The tokens of a script, or why there are none.
-pub fn all(alloc: Global, script: &[u8]) -> Result<Vec<Token>, Stop<'_>>
-    requires { length script.now ≤ 1048576 }
+/// The tokens of a script, or why there are none. The names share the bytes of the text, which is the script.
+pub fn all<'a>(alloc: Global, text: &Bytes, script: &'a [u8]) -> Result<Vec<Token>, Stop<'a>>
+    requires same { text.now ≡ script.now }
+    requires within { length script.now ≤ 1048576 }
     ensures { Answers script.now result }
 {
     let mut found = Vec::with_capacity(alloc, script.len() / 3 + 1)?;
@@ -64,8 +57,8 @@ pub fn all(alloc: Global, script: &[u8]) -> Result<Vec<Token>, Stop<'_>>
             at: (script.len() - here.len()) as u32,
             line,
         };
-        let (what, rest) = spelling(alloc, here)?;
-        let last = is_end(&what);
+        let (what, rest) = spelling(alloc, text, here)?;
+        let last = what.is_end();
         line += lines(&what, here, rest) as u32;
         found.push(Token { what, place })?;
         if last {

@@ -1,6 +1,7 @@
 //! The token that stands at a place.
 
 ghost use Rattle.std.specs.Prelude.{◌≡◌, ◌∷◌};
+ghost use Rattle.lua_lexer.specs.Bytes.{EndsWith};
 ghost use Rattle.lua_lexer.specs.Spellings as spell;
 ghost use Rattle.lua_lexer.specs.Reading as spec;
 ghost use Rattle.lua_lexer.specs.View.{Reads, lex};
@@ -12,6 +13,7 @@ use crate::sign::sign_at;
 use crate::stop::{Stop, Why};
 use crate::text::{bracket_at, string_at};
 use crate::word::word_at;
+use lanes_arena::Bytes;
 use lua_tokens::Lexeme;
 use std::alloc::Global;
 
@@ -65,16 +67,21 @@ fn bracketed<'a>(
     }
 }
 
-/// The token that stands here, the end included, or why none does.
+/// The token that stands here, the end included, or why none does. The bytes are the end of the script.
 #[tactic(auto, unfolding(crate::specs::Reading::spelling))]
-pub fn spelling(alloc: Global, bytes: &[u8]) -> Result<(Lexeme, &[u8]), Stop<'_>>
+pub fn spelling<'a>(
+    alloc: Global,
+    script: &Bytes,
+    bytes: &'a [u8],
+) -> Result<(Lexeme, &'a [u8]), Stop<'a>>
+    requires { EndsWith script.now bytes.now }
     ensures { Reads lex (spec.spelling bytes.now) result }
 {
     let Some((first, rest)) = next(bytes) else {
         return Ok((Lexeme::End, bytes));
     };
     if is_letter(first) {
-        word_at(alloc, bytes)
+        word_at(script, bytes)
     } else if begins_numeral(first, rest) {
         numeral_at(bytes)
     } else if is_quote(first) {

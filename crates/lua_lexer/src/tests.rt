@@ -2,6 +2,7 @@
 
 use crate::{LexFault, Lexeme, Place, Token, tokens};
 use int_ops::text_of;
+use lanes_arena::Bytes;
 use std::alloc::{AllocError, Global};
 use std::process::Abort;
 use std::test::Fail;
@@ -328,7 +329,7 @@ fn split_case(case: &[u8]) -> (&[u8], &[u8]) {
 
 fn expect_tokens(rt: &impl Abort, alloc: Global, case: &[u8]) -> Result<(), Fail> {
     let (script, wanted) = split_case(case);
-    let found = tokens(alloc, script)?;
+    let found = tokens(alloc, &Bytes::of(alloc, script)?)?;
     let text = shown(alloc, &found)?;
     assert_eq!(rt; text.as_slice(), wanted, "at {script:?}");
     Ok(())
@@ -365,7 +366,8 @@ fn expect_fault(
     wanted: &str,
     place: Place,
 ) -> Result<(), Fail> {
-    let fault = tokens(alloc, script).err().ok_or("a fault")?;
+    let text = Bytes::of(alloc, script)?;
+    let fault = tokens(alloc, &text).err().ok_or("a fault")?;
     let text = fault.to_string(alloc)?;
     assert_eq!(rt; text.as_str(), wanted, "at {script:?}");
     assert_eq!(rt; place_of(&fault), Some(place), "at {script:?}");
@@ -379,7 +381,7 @@ fn expect_place(
     number: usize,
     wanted: Place,
 ) -> Result<(), Fail> {
-    let found = tokens(alloc, script)?;
+    let found = tokens(alloc, &Bytes::of(alloc, script)?)?;
     let place = found.get(number).map(|token| token.place);
     assert_eq!(rt; place, Some(wanted), "at {script:?}");
     Ok(())
@@ -478,8 +480,10 @@ fn places_of_tokens(rt: HostRuntime) -> Result<(), Fail> {
 #[test]
 fn longest_script(rt: HostRuntime) -> Result<(), Fail> {
     let mut blanks = vec![in rt.alloc(); b' '; 1048576]?;
-    assert_eq!(rt; tokens(rt.alloc(), &blanks)?.len(), 1);
+    let longest = Bytes::of(rt.alloc(), &blanks)?;
+    assert_eq!(rt; tokens(rt.alloc(), &longest)?.len(), 1);
     blanks.push(b' ')?;
-    assert_eq!(rt; tokens(rt.alloc(), &blanks).err(), Some(LexFault::TooLong));
+    let longer = Bytes::from_vec(blanks)?;
+    assert_eq!(rt; tokens(rt.alloc(), &longer).err(), Some(LexFault::TooLong));
     Ok(())
 }

@@ -88,7 +88,7 @@ pub fn string_at<'a>(
     ensures { Reads lex (spec.texted (spec.string at.now quote bytes.now)) result }
 {
     match string(alloc, at, quote, bytes) {
-        Ok((text, rest)) => Ok((Lexeme::Text(Bytes::from_vec(text)), rest)),
+        Ok((text, rest)) => Ok((Lexeme::Text(Bytes::from_vec(text)?), rest)),
         Err(stop) => Err(stop),
     }
 }
@@ -125,7 +125,7 @@ pub fn bracket_at<'a>(
         None => Err(Stop::At(Why::OpenString, at)),
         Some((content, rest)) => {
             let text = line_feeds(alloc, past_line_end(content))?;
-            Ok((Lexeme::Text(Bytes::from_vec(text)), rest))
+            Ok((Lexeme::Text(Bytes::from_vec(text)?), rest))
         }
     }
 }

@@ -1,7 +1,7 @@
 //! Names and reserved words.
 
-ghost use Rattle.std.specs.Prelude.{◌≡◌};
-ghost use Rattle.lua_lexer.specs.Bytes.{run, past, is_word};
+ghost use Rattle.std.specs.Prelude.{◌≡◌, length, take, IfOk, IfErr};
+ghost use Rattle.lua_lexer.specs.Bytes.{run, past, is_word, EndsWith};
 ghost use Rattle.lua_lexer.specs.Spellings as spell;
 ghost use Rattle.lua_lexer.specs.Reading as spec;
 ghost use Rattle.lua_lexer.specs.View.{Reads, lex};
@@ -10,7 +10,6 @@ use crate::bytes::past_word;
 use crate::stop::Stop;
 use lanes_arena::Bytes;
 use lua_tokens::{Lexeme, Word};
-use std::alloc::Global;
 
 /// The reserved word that is spelled so.
 #[tactic(auto, using(crate::proofs::Words::no_text), unfolding(crate::specs::Spellings::keyword))]
@@ -77,14 +76,27 @@ fn split_word(bytes: &[u8]) -> (&[u8], &[u8])
     (run, behind)
 }
 
+/// The text that begins the bytes, which end the script. It shares the bytes of the script.
+#[tactic(auto, using(crate::proofs::Runs::shared_rules))]
+fn shared<'a>(script: &Bytes, bytes: &'a [u8], text: &[u8]) -> Result<Bytes, Stop<'a>>
+    requires stands { EndsWith script.now bytes.now }
+    requires begins { take (length text.now) bytes.now ≡ text.now }
+    ensures name { IfOk result (λ name. name ≡ text.now) }
+    ensures memory { IfErr result (λ stop. stop ≡ Stop.Memory) }
+{
+    let start = script.as_slice().len() - bytes.len();
+    Ok(script.part(start, start + text.len())?)
+}
+
 /// The name or the reserved word that stands here.
-#[tactic(auto, unfolding(crate::specs::Reading::word_at))]
-pub fn word_at(alloc: Global, bytes: &[u8]) -> Result<(Lexeme, &[u8]), Stop<'_>>
+#[tactic(auto, using(crate::proofs::Runs::run_front), unfolding(crate::specs::Reading::word_at))]
+pub fn word_at<'a>(script: &Bytes, bytes: &'a [u8]) -> Result<(Lexeme, &'a [u8]), Stop<'a>>
+    requires { EndsWith script.now bytes.now }
     ensures { Reads lex (spec.word_at bytes.now) result }
 {
     let (text, rest) = split_word(bytes);
     match keyword(text) {
         Some(word) => Ok((Lexeme::Word(word), rest)),
-        None => Ok((Lexeme::Name(Bytes::of(alloc, text)?), rest)),
+        None => Ok((Lexeme::Name(shared(script, bytes, text)?), rest)),
     }
 }

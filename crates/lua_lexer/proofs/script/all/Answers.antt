@@ -1,9 +1,9 @@
-use Rattle.std.proofs.Common.{◌≡◌, ◌+◌, ◌-◌, sym, refl, ap, subst, arith, length}
-use Rattle.lua_lexer.specs.Bytes.{line_ends}
+use Rattle.std.proofs.Common.{◌≡◌, ◌+◌, ◌-◌, sym, refl, ap, subst, arith, true, false, length}
+use Rattle.lua_lexer.specs.Bytes.{line_ends, EndsWith}
 use Rattle.lua_lexer.specs.Tokens.{Lexes, line}
 use Rattle.lua_lexer.specs.View.{lex, marks}
-use Rattle.lua_lexer.proofs.Fronts.{suffix_short, suffix_trans}
-use Rattle.lua_lexer.proofs.Places.{first_lines, first_suffix, few_lines, gap_lines, gap_within, gap_suffix, token_suffix, token_shorter, line_placed}
+use Rattle.lua_lexer.proofs.Fronts.{suffix_short, suffix_trans, suffix_ends}
+use Rattle.lua_lexer.proofs.Places.{finish_seen, first_lines, first_suffix, few_lines, gap_lines, gap_within, gap_suffix, token_suffix, token_shorter, line_placed}
 use Rattle.lua_lexer.proofs.Turns.{Goes, goes_more, stops_more, goes_last, stops_read, passed_on}
 use Rattle.lua_lexer.proofs.script.all.Goals as goal
 
@@ -26,15 +26,15 @@ overflow_sub-place c =
 
 pub overflow_add-line : goal.overflow_add-line
 overflow_add-line c =
-    omega (arith, c.loop-found.invariant.lines, few_lines c.args.script.now, c.requires, c.line_ends.ensures.count, ap line_ends c.split_at.ensures.front, gap_lines c.loop-found.left.now c.gap-here.result.now c.gap-here.ensures)
+    omega (arith, c.loop-found.invariant.lines, few_lines c.args.script.now, c.requires.within, c.line_ends.ensures.count, ap line_ends c.split_at.ensures.front, gap_lines c.loop-found.left.now c.gap-here.result.now c.gap-here.ensures)
 
 pub overflow_cast-line-in-loop-found : goal.overflow_cast-line-in-loop-found
 overflow_cast-line-in-loop-found c =
-    omega (arith, c.loop-found.invariant.lines, few_lines c.args.script.now, c.requires, c.line_ends.ensures.count, ap line_ends c.split_at.ensures.front, gap_lines c.loop-found.left.now c.gap-here.result.now c.gap-here.ensures, c.lines.ensures)
+    omega (arith, c.loop-found.invariant.lines, few_lines c.args.script.now, c.requires.within, c.line_ends.ensures.count, ap line_ends c.split_at.ensures.front, gap_lines c.loop-found.left.now c.gap-here.result.now c.gap-here.ensures, c.lines.ensures)
 
 pub overflow_add-line-in-loop-found : goal.overflow_add-line-in-loop-found
 overflow_add-line-in-loop-found c =
-    omega (arith, c.loop-found.invariant.lines, few_lines c.args.script.now, c.requires, c.line_ends.ensures.count, ap line_ends c.split_at.ensures.front, gap_lines c.loop-found.left.now c.gap-here.result.now c.gap-here.ensures, c.lines.ensures)
+    omega (arith, c.loop-found.invariant.lines, few_lines c.args.script.now, c.requires.within, c.line_ends.ensures.count, ap line_ends c.split_at.ensures.front, gap_lines c.loop-found.left.now c.gap-here.result.now c.gap-here.ensures, c.lines.ensures)
 
 pub returns-in_err-what : goal.returns-in_err-what
 returns-in_err-what c =
@@ -48,12 +48,12 @@ returns-then-last c =
     let n : c.loop-found.line + c.line_ends.result ≡ line c.args.script.now c.gap-here.result.now =
     omega (arith, p, c.loop-found.invariant.lines, c.line_ends.ensures.count, ap line_ends c.split_at.ensures.front, gap_lines c.loop-found.left.now c.gap-here.result.now g) in
     let t = goes_last c.args.script.now c.loop-found.found.items (record { what = c.in_ok-what.what; place = record { at = length c.args.script.now - length c.gap-here.result.now; line = c.loop-found.line + c.line_ends.result } })
-    c.loop-found.left.now c.gap-here.result.now c.in_ok-what.rest.now c.loop-found.invariant.goes g c.in_ok-what.ensures (sym c.if-last.ensures) refl n in
+    c.loop-found.left.now c.gap-here.result.now c.in_ok-what.rest.now c.loop-found.invariant.goes g c.in_ok-what.ensures (finish_seen c.in_ok-what.what true c.if-last.ensures) refl n in
     subst (λ z. Lexes c.args.script.now (marks z)) (sym c.in_ok-push.ensures.items) t
 
 pub loop-found-smaller : goal.loop-found-smaller
 loop-found-smaller c =
-    omega (arith, token_shorter (lex c.in_ok-what.what) c.gap-here.result.now c.in_ok-what.rest.now c.in_ok-what.ensures (sym c.if-last.ensures), gap_within c.loop-found.left.now c.gap-here.result.now c.gap-here.ensures)
+    omega (arith, token_shorter (lex c.in_ok-what.what) c.gap-here.result.now c.in_ok-what.rest.now c.in_ok-what.ensures (finish_seen c.in_ok-what.what false c.if-last.ensures), gap_within c.loop-found.left.now c.gap-here.result.now c.gap-here.ensures)
 
 pub loop-found-preserved : goal.loop-found-preserved
 loop-found-preserved c =
@@ -62,12 +62,17 @@ loop-found-preserved c =
     let n : c.loop-found.line + c.line_ends.result ≡ line c.args.script.now c.gap-here.result.now =
     omega (arith, p, c.loop-found.invariant.lines, c.line_ends.ensures.count, ap line_ends c.split_at.ensures.front, gap_lines c.loop-found.left.now c.gap-here.result.now g) in
     let t = goes_more c.args.script.now c.loop-found.found.items (record { what = c.in_ok-what.what; place = record { at = length c.args.script.now - length c.gap-here.result.now; line = c.loop-found.line + c.line_ends.result } })
-    c.loop-found.left.now c.gap-here.result.now c.in_ok-what.rest.now c.loop-found.invariant.goes g c.in_ok-what.ensures (sym c.if-last.ensures) refl n in
+    c.loop-found.left.now c.gap-here.result.now c.in_ok-what.rest.now c.loop-found.invariant.goes g c.in_ok-what.ensures (finish_seen c.in_ok-what.what false c.if-last.ensures) refl n in
     record {
       goes = subst (λ z. Goes c.args.script.now z c.in_ok-what.rest.now) (sym c.in_ok-push.ensures.items) t;
-      stops = stops_more c.args.script.now c.loop-found.left.now c.gap-here.result.now c.in_ok-what.rest.now (lex c.in_ok-what.what) c.loop-found.invariant.stops g c.in_ok-what.ensures (sym c.if-last.ensures);
+      stops = stops_more c.args.script.now c.loop-found.left.now c.gap-here.result.now c.in_ok-what.rest.now (lex c.in_ok-what.what) c.loop-found.invariant.stops g c.in_ok-what.ensures (finish_seen c.in_ok-what.what false c.if-last.ensures);
       lines = omega (arith, c.lines.ensures, c.loop-found.invariant.lines, c.line_ends.ensures.count, ap line_ends c.split_at.ensures.front, gap_lines c.loop-found.left.now c.gap-here.result.now g);
       suffix = suffix_trans c.args.script.now c.gap-here.result.now c.in_ok-what.rest.now
           (suffix_trans c.args.script.now c.loop-found.left.now c.gap-here.result.now c.loop-found.invariant.suffix (gap_suffix c.loop-found.left.now c.gap-here.result.now g))
           (token_suffix (lex c.in_ok-what.what) c.gap-here.result.now c.in_ok-what.rest.now c.in_ok-what.ensures);
     }
+
+pub spelling-requires : goal.spelling-requires
+spelling-requires c =
+    let s = suffix_trans c.args.script.now c.loop-found.left.now c.gap-here.result.now c.loop-found.invariant.suffix (gap_suffix c.loop-found.left.now c.gap-here.result.now c.gap-here.ensures) in
+    subst (λ z. EndsWith z c.gap-here.result.now) (sym c.requires.same) (suffix_ends c.args.script.now c.gap-here.result.now s)
