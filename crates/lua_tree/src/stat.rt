@@ -3,7 +3,7 @@
 use crate::expr::Expr;
 use lanes_arena::{Bytes, Row};
 use lua_tokens::Place;
-use sqlite_items::Items;
+use sqlite_items::{Boxed, Items};
 
 /// A script: its main block (manual, section 3.3.2).
 #[derive(Debug, Drop)]
@@ -52,7 +52,7 @@ pub enum Stat {
     /// A branch for `if` and for each `elseif`, and the block of `else`.
     If(Items<Branch>, Option<Block>),
     /// The variable, the start, the limit, the step and the block.
-    ForNum(Bytes, Place, Expr, Expr, Option<Expr>, Block),
+    ForNum(Bytes, Place, Boxed<Expr>, Boxed<Expr>, Option<Boxed<Expr>>, Block),
     /// The variables, the values that give the iterator, and the block.
     ForIn(Row<(Bytes, Place)>, Items<Expr>, Block),
     LocalFunction(Bytes, Place, Body),
