@@ -10,3 +10,4 @@ pub mod Standing
 pub mod Places
 pub mod Turns
 pub mod Exact
+pub mod Shown

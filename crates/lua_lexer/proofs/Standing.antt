@@ -682,7 +682,7 @@ stands_short bs _ _ (a_sign x rest e) = front_short bs (sign_text x) rest e (sig
 stands_short bs _ _ (a_string quote inside value rest e k h) = omega (arith, ap length e, solid_short inside rest (quoted_solid [] quote (quote_is quote k) inside value rest h))
 stands_short bs _ _ (a_bracket level inside content rest o u) = omega (arith, bracket_first bs level inside o, close_short level inside content rest u)
 
-nothing_stands : (bs : List ℕ) (x : Lex) (rest : List ℕ) → bs ≡ [] → Stands bs x rest → ⊥
+pub nothing_stands : (bs : List ℕ) (x : Lex) (rest : List ℕ) → bs ≡ [] → Stands bs x rest → ⊥
 nothing_stands bs x rest e h = absurd (omega (arith, ap length e, stands_short bs x rest h))
 
 read_by : (bs : List ℕ) (x : Lex) (rest : List ℕ) → Spells bs x rest → (r : Outcome Lex) → MeetsAt bs x rest r → Found bs r → r ≡ Ok (x, rest)

@@ -66,6 +66,11 @@ pub record Spells (bs : List ℕ) (x : Lex) (rest : List ℕ) : Type 0 where
   pub longest : (other : Lex) (more : List ℕ) → Stands bs other more → length rest ≤ length more
   pub allowed : Allowed bs rest
 
+-- the bytes of the token that is spelled here, or none where none is
+abbrev pub SpelledAt : List ℕ → Option (List ℕ) → Type 0
+SpelledAt bs None = (x : Lex) (rest : List ℕ) → Spells bs x rest → ⊥
+SpelledAt bs (Some bytes) = (x : Lex) × (rest : List ℕ) × Spells bs x rest × (bs ≡ bytes ++ rest)
+
 -- ---- tokens
 
 -- a token, with the place where it begins

@@ -14,6 +14,7 @@ mod stop;
 #[cfg(test)]
 mod tests;
 mod text;
+mod token;
 mod word;
 
 ghost use Rattle.std.specs.Prelude.{◌≡◌, ◌<◌, ◌↔◌, ℕ, List, length, IfOk, IfErr, IsErrOf};
@@ -26,6 +27,7 @@ use lanes_arena::Bytes;
 pub use lua_tokens::{Lexeme, Place, Sign, Token, Word};
 use std::alloc::Global;
 use stop::{Stop, Why};
+pub use token::token_bytes;
 
 /// The greatest length of a script, in bytes.
 const LONGEST: usize = 1048576;

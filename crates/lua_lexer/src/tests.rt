@@ -1,6 +1,6 @@
 //! What the rules say of scripts: expected values come from the manual and from the reference Lua.
 
-use crate::{LexFault, Lexeme, Place, Token, tokens};
+use crate::{LexFault, Lexeme, Place, Token, token_bytes, tokens};
 use int_ops::text_of;
 use lanes_arena::Bytes;
 use std::alloc::{AllocError, Global};
@@ -485,5 +485,14 @@ fn longest_script(rt: HostRuntime) -> Result<(), Fail> {
     blanks.push(b' ')?;
     let longer = Bytes::from_vec(blanks)?;
     assert_eq!(rt; tokens(rt.alloc(), &longer).err(), Some(LexFault::TooLong));
+    Ok(())
+}
+
+#[test]
+fn bytes_of_a_token(rt: HostRuntime) -> Result<(), Fail> {
+    let script = Bytes::of(rt.alloc(), b"x = 0x1F")?;
+    let number = token_bytes(rt.alloc(), &script, 4)?.ok_or("a token")?;
+    assert_eq!(rt; number.as_slice(), b"0x1F".as_slice());
+    assert!(rt; token_bytes(rt.alloc(), &script, 8)?.is_none());
     Ok(())
 }
