@@ -1,6 +1,6 @@
 -- The bytes of one token.
-use Rattle.std.proofs.Common.{◌≡◌, sym, ◌∙◌, ap, subst, ℕ, ◌-◌, ◌≤◌, false, List, [], ◌++◌, length, take, drop, Some, None, Ok, Err, arith}
-use Rattle.std.proofs.lemmas.List.{length-drop}
+use Rattle.std.proofs.Common.{◌≡◌, sym, ◌∙◌, ap, subst, ℕ, ◌-◌, ◌≤◌, ◌<◌, false, List, [], ◌++◌, length, take, drop, Some, None, Ok, Err, arith}
+use Rattle.std.proofs.lemmas.List.{length-drop, drop_all}
 use Rattle.lua_tokens.specs.declared.Lexeme.{Lexeme}
 use Rattle.lua_tokens.specs.declared.Lexeme.TheVariants as lexeme
 use Rattle.lua_lexer.specs.declared.stop.Why.{Why}
@@ -46,4 +46,10 @@ shown_token script here rest bytes at what e s f w b =
     let whole : bytes ≡ stands.front = b ∙ ap (λ n. take n (drop at script)) cut ∙ ap (take (length here - length rest)) (sym e) ∙ front in
     subst (λ z. SpelledAt z (Some bytes)) e ((lex what, rest, read_spelled here (lex what) rest s f, stands.whole ∙ ap (λ z. z ++ rest) (sym whole))))
 
-pub ruleset shown_rules = (here_ends, shown_fault, shown_end)
+pub shown_past : (script all : List ℕ) (at : ℕ) → all ≡ script → length all < at → SpelledAt (drop at script) None
+shown_past script all at e s =
+    (let beyond : length script ≤ at = omega (arith, s, ap length e) in
+    let empty : drop at script ≡ [] = drop_all at script beyond in
+    λ x rest h. absurd (nothing_stands (drop at script) x rest empty h.stands))
+
+pub ruleset shown_rules = (here_ends, shown_fault, shown_end, shown_past)

@@ -1,6 +1,6 @@
 //! The bytes of one token.
 
-ghost use Rattle.std.specs.Prelude.{◌≡◌, ◌≤◌, length, drop, IfOk};
+ghost use Rattle.std.specs.Prelude.{drop, IfOk};
 ghost use Rattle.lua_lexer.specs.Tokens.{SpelledAt};
 
 use crate::spelling::spelling;
@@ -8,14 +8,16 @@ use crate::stop::Stop;
 use lanes_arena::{Bytes, Memory};
 use std::alloc::Global;
 
-/// The bytes of the token that stands at this offset of a script, or none where no token does, as at its end. They are shared
+/// The bytes of the token that stands at this offset of a script, or none where no token does, as at its end and past it. They are shared
 /// with the script. The only refusal is want of memory.
 #[tactic(auto, using(crate::proofs::Shown::shown_rules))]
 pub fn token_bytes(alloc: Global, script: &Bytes, at: usize) -> Result<Option<Bytes>, Memory>
-    requires { at ≤ length script.now }
     ensures { IfOk result (λ text. SpelledAt (drop at script.now) text) }
 {
     let all = script.as_slice();
+    if all.len() < at {
+        return Ok(None);
+    }
     let (_, here) = all.split_at(at);
     let (what, rest) = match spelling(alloc, script, here) {
         Ok((what, rest)) => (what, rest),

@@ -12,12 +12,12 @@ overflow_sub-all c =
 pub part-requires-clause-order : goal.part-requires-clause-order
 part-requires-clause-order c =
     let same = c.as_slice-all.ensures in
-    let within = rest_within c.args.script.now c.split_at.result.1.now c.in-Ok.rest.now c.args.at c.in-Ok.what c.requires (c.split_at.ensures.back ∙ ap (drop c.args.at) same) c.in-Ok.ensures in
+    let within = rest_within c.args.script.now c.split_at.result.1.now c.in-Ok.rest.now c.args.at c.in-Ok.what (omega (arith, c.if-all-at.false, ap length same)) (c.split_at.ensures.back ∙ ap (drop c.args.at) same) c.in-Ok.ensures in
     omega (arith, within, ap length same)
 
 pub returns : goal.returns
 returns c =
     let same = c.as_slice-all.ensures in
     shown_token c.args.script.now c.split_at.result.1.now c.in-Ok.rest.now c.in_ok-part.field-0 c.args.at c.in-Ok.what (c.split_at.ensures.back ∙ ap (drop c.args.at) same) c.in-Ok.ensures
-    (finish_seen c.in-Ok.what false c.if-is_end.ensures) c.requires
+    (finish_seen c.in-Ok.what false c.if-is_end.ensures) (omega (arith, c.if-all-at.false, ap length same))
     (c.in_ok-part.ensures ∙ ap (λ n. take (n - length c.in-Ok.rest.now - c.args.at) (drop c.args.at c.args.script.now)) (ap length same))
