@@ -4,7 +4,7 @@
     bench/scripts.py [RUNS]
 
 Each script has at most 1,048,576 bytes. The time is the least of RUNS runs (10 where it is not given), with the output
-thrown away; the peak is the greatest resident memory of a run.
+thrown away; the peak is the greatest resident memory of a run, where Debian's package time is installed.
 """
 import os
 import pathlib
@@ -85,12 +85,12 @@ def least(command, runs):
 
 
 def peak(command):
-    """The greatest resident memory of one run, in kilobytes."""
-    pid = os.posix_spawn(command[0], command, os.environ,
-                         file_actions=[(os.POSIX_SPAWN_OPEN, 1, "/dev/null", os.O_WRONLY, 0),
-                                       (os.POSIX_SPAWN_OPEN, 2, "/dev/null", os.O_WRONLY, 0)])
-    _, _, used = os.wait4(pid, 0)
-    return used.ru_maxrss
+    """The greatest resident memory of one run in kilobytes, as Debian's `time` tells it, or none where that is not installed.
+    A process that is started from here has the peak of this one as its own, so it can't be asked without."""
+    if not shutil.which("time"):
+        return None
+    ended = subprocess.run(["time", "-f", "%M", *command], stdout=subprocess.DEVNULL, stderr=subprocess.PIPE, text=True)
+    return int(ended.stderr.split()[-1])
 
 
 def main():
@@ -108,9 +108,11 @@ def main():
             pathlib.Path(path).write_text(text)
             seconds, status = least([str(PROGRAM), path], runs)
             line = f"{name}: {len(text)} bytes, {text.count(chr(10))} lines: {seconds * 1000:.1f} ms, status {status}"
-            line += f", peak {peak([str(PROGRAM), path]) / 1024:.1f} MiB"
+            kilobytes = peak([str(PROGRAM), path])
+            line += f", peak {kilobytes / 1024:.1f} MiB" if kilobytes else ""
             if luac:
-                line += f"; luac5.4 -p {least([luac, '-p', path], runs)[0] * 1000:.1f} ms"
+                seconds, status = least([luac, "-p", path], runs)
+                line += f"; luac5.4 -p {seconds * 1000:.1f} ms" + (f", status {status}" if status else "")
             print(line)
 
 

@@ -1,0 +1,9 @@
+pub mod ForBlocks
+pub mod OneStat
+pub mod Reads
+pub mod Looks
+pub mod Nests
+pub mod Operators
+pub mod Steps
+pub mod Answers
+pub mod Fields

@@ -1,0 +1,388 @@
+//! A cursor over tokens.
+
+ghost use Rattle.std.specs.Prelude.{◌≡◌, ◌↔◌, IsTrue, IfOk, true, [], ◌≤◌, ◌∷◌, length, drop};
+ghost use Rattle.lua_tokens.specs.declared.token.Lexeme.TheVariants as l;
+ghost use Rattle.lua_grammar.specs.Next.{an_atom, a_unary};
+ghost use Rattle.lua_grammar.specs.Input.{expect, attribute_name};
+ghost use Rattle.lua_parser.specs.Looks.{joined, rest, place_of, name_at, text_at, kind_at, kind_in, op_at, unary_at, begins_at, ends_at, after, Takes, Needs};
+ghost use Rattle.lua_parser.specs.Operators.{found_op};
+ghost use Rattle.lua_parser.specs.Reads.{Reads};
+
+use crate::operator::{Operator, binary_operator};
+use crate::stop::Stop;
+use lanes_arena::Bytes;
+use lua_tokens::{Lexeme, Place, Sign, Token, Word};
+use lua_tree::{ExprKind, Unary};
+use std::alloc::AllocError;
+use std::marker::Model;
+
+/// The tokens that are left.
+#[derive(Drop)]
+pub struct Tokens<'a> {
+    left: &'a [Token],
+}
+
+impl<'a> Model for Tokens<'a> {
+    ghost use Rattle.std.specs.Prelude.{List};
+    ghost use Rattle.lua_tokens.specs.declared.token.Token.{Token};
+
+    ghost Value = { List Token };
+
+    ghost view = { λ t. t.left.now };
+}
+
+/// The next token and the others.
+fn next<'a>(tokens: &'a [Token]) -> Option<(&'a Token, &'a [Token])>
+    ensures { tokens.now ≡ joined result }
+{
+    match tokens {
+        [] => None,
+        [first, others @ ..] => Some((first, others)),
+    }
+}
+
+/// The node of an atom at this place.
+fn atom_kind(what: &Lexeme, place: Place) -> Result<Option<ExprKind>, AllocError>
+    ensures { IfOk result (λ kind. kind ≡ kind_in (an_atom what.now) place) }
+{
+    match what {
+        Lexeme::Int(n) => Ok(Some(ExprKind::Int(*n))),
+        Lexeme::Text(text) => Ok(Some(ExprKind::Text(text.copy()?))),
+        Lexeme::Word(Word::Nil) => Ok(Some(ExprKind::Nil)),
+        Lexeme::Word(Word::True) => Ok(Some(ExprKind::True)),
+        Lexeme::Word(Word::False) => Ok(Some(ExprKind::False)),
+        Lexeme::Sign(Sign::DotDotDot) => Ok(Some(ExprKind::Dots(place))),
+        _ => Ok(None),
+    }
+}
+
+/// The unary operator that this is.
+fn unary(what: &Lexeme) -> Option<Unary>
+    ensures { result ≡ a_unary what.now }
+{
+    match what {
+        Lexeme::Word(Word::Not) => Some(Unary::Not),
+        Lexeme::Sign(Sign::Hash) => Some(Unary::Len),
+        Lexeme::Sign(Sign::Minus) => Some(Unary::Neg),
+        Lexeme::Sign(Sign::Tilde) => Some(Unary::BitNot),
+        _ => None,
+    }
+}
+
+impl<'a> Tokens<'a> {
+    pub fn new(all: &'a [Token]) -> Tokens<'a>
+        ensures { result ≡ all.now }
+    {
+        Tokens { left: all }
+    }
+
+    /// Goes past the next token, if there is one.
+    #[tactic(auto, using(crate::proofs::Standing::rest_drop), unfolding(crate::specs::Looks::rest))]
+    pub fn take(&mut self)
+        ensures { self.new ≡ rest self.old }
+    {
+        if let Some((_, others)) = next(self.left) {
+            self.left = others;
+        }
+    }
+
+    /// The place of the next token, if it is this sign.
+    #[tactic(auto, using(crate::proofs::Standing::sign_rules))]
+    fn sign_here(&self, sign: Sign) -> Option<Place>
+        ensures { result ≡ place_of (l.Sign sign) self.now }
+    {
+        let (first, _) = next(self.left)?;
+        match first.what {
+            Lexeme::Sign(next) => {
+                if next == sign {
+                    Some(first.place)
+                } else {
+                    None
+                }
+            }
+            _ => None,
+        }
+    }
+
+    /// The place of the next token, if it is this word.
+    #[tactic(auto, using(crate::proofs::Standing::word_rules))]
+    fn word_here(&self, word: Word) -> Option<Place>
+        ensures { result ≡ place_of (l.Word word) self.now }
+    {
+        let (first, _) = next(self.left)?;
+        match first.what {
+            Lexeme::Word(next) => {
+                if next == word {
+                    Some(first.place)
+                } else {
+                    None
+                }
+            }
+            _ => None,
+        }
+    }
+
+    /// Takes this sign, if it comes next.
+    pub fn sign(&mut self, sign: Sign) -> Option<Place>
+        ensures found { result ≡ place_of (l.Sign sign) self.old }
+        ensures left { self.new ≡ after result self.old }
+    {
+        let place = self.sign_here(sign)?;
+        self.take();
+        Some(place)
+    }
+
+    /// Takes this word, if it comes next.
+    pub fn word(&mut self, word: Word) -> Option<Place>
+        ensures found { result ≡ place_of (l.Word word) self.old }
+        ensures left { self.new ≡ after result self.old }
+    {
+        let place = self.word_here(word)?;
+        self.take();
+        Some(place)
+    }
+
+    /// Takes this sign, if it comes next and there is room for it.
+    pub fn sign_if(&mut self, sign: Sign, room: bool) -> Result<Option<Place>, Stop>
+        ensures { Takes (place_of (l.Sign sign) self.old) room result self.old self.new }
+    {
+        let Some(place) = self.sign_here(sign) else {
+            return Ok(None);
+        };
+        if !room {
+            return Err(Stop::Deep);
+        }
+        self.take();
+        Ok(Some(place))
+    }
+
+    /// Takes this word, if it comes next and there is room for it.
+    pub fn word_if(&mut self, word: Word, room: bool) -> Result<Option<Place>, Stop>
+        ensures { Takes (place_of (l.Word word) self.old) room result self.old self.new }
+    {
+        let Some(place) = self.word_here(word) else {
+            return Ok(None);
+        };
+        if !room {
+            return Err(Stop::Deep);
+        }
+        self.take();
+        Ok(Some(place))
+    }
+
+    /// Takes this sign, which has to come next.
+    #[tactic(auto, using(crate::proofs::Steps::expect_rules))]
+    pub fn expect_sign(&mut self, sign: Sign) -> Result<Place, Stop>
+        ensures { Reads (expect (l.Sign sign) self.old) result self.new }
+    {
+        match self.sign(sign) {
+            Some(place) => Ok(place),
+            None => Err(Stop::Bad),
+        }
+    }
+
+    /// Takes this word, which has to come next.
+    #[tactic(auto, using(crate::proofs::Steps::expect_rules))]
+    pub fn expect_word(&mut self, word: Word) -> Result<Place, Stop>
+        ensures { Reads (expect (l.Word word) self.old) result self.new }
+    {
+        match self.word(word) {
+            Some(place) => Ok(place),
+            None => Err(Stop::Bad),
+        }
+    }
+
+    /// Takes a name, if one comes next and there is room for it.
+    #[tactic(auto, using(crate::proofs::Standing::name_rules))]
+    pub fn name_if(&mut self, room: bool) -> Result<Option<(Bytes, Place)>, Stop>
+        ensures { Takes (name_at self.old) room result self.old self.new }
+    {
+        let Some((first, others)) = next(self.left) else {
+            return Ok(None);
+        };
+        let Lexeme::Name(name) = &first.what else {
+            return Ok(None);
+        };
+        if !room {
+            return Err(Stop::Deep);
+        }
+        let place = first.place;
+        let copy = name.copy()?;
+        self.left = others;
+        Ok(Some((copy, place)))
+    }
+
+    /// Takes a text, if one comes next and there is room for it.
+    #[tactic(auto, using(crate::proofs::Standing::text_rules))]
+    pub fn text_if(&mut self, room: bool) -> Result<Option<(Bytes, Place)>, Stop>
+        ensures { Takes (text_at self.old) room result self.old self.new }
+    {
+        let Some((first, others)) = next(self.left) else {
+            return Ok(None);
+        };
+        let Lexeme::Text(text) = &first.what else {
+            return Ok(None);
+        };
+        if !room {
+            return Err(Stop::Deep);
+        }
+        let place = first.place;
+        let copy = text.copy()?;
+        self.left = others;
+        Ok(Some((copy, place)))
+    }
+
+    /// Takes a name, which has to come next.
+    pub fn expect_name(&mut self) -> Result<(Bytes, Place), Stop>
+        ensures { Needs (name_at self.old) result self.old self.new }
+    {
+        match self.name_if(true)? {
+            Some((name, place)) => Ok((name, place)),
+            None => Err(Stop::Bad),
+        }
+    }
+
+    /// Takes the name `const`, which has to come next.
+    #[tactic(auto, using(crate::proofs::Standing::attribute_rules))]
+    pub fn attribute(&mut self) -> Result<Place, Stop>
+        ensures { Reads (attribute_name self.old) result self.new }
+    {
+        let Some((first, others)) = next(self.left) else {
+            return Err(Stop::Bad);
+        };
+        let Lexeme::Name(name) = &first.what else {
+            return Err(Stop::Bad);
+        };
+        if name.as_slice() == b"const".as_slice() {
+            let place = first.place;
+            self.left = others;
+            return Ok(place);
+        }
+        Err(Stop::Attribute)
+    }
+
+    /// Whether a token comes next that may follow `return` where it gives no values.
+    #[tactic(auto, using(crate::proofs::Standing::ends_rules))]
+    pub fn ends_return(&self) -> bool
+        ensures { result ≡ ends_at self.now }
+    {
+        let Some((first, _)) = next(self.left) else {
+            return false;
+        };
+        match first.what {
+            Lexeme::End | Lexeme::Sign(Sign::Semicolon) => true,
+            Lexeme::Word(Word::End | Word::Else | Word::Elseif | Word::Until) => true,
+            _ => false,
+        }
+    }
+
+    /// Takes the end of the script, if it comes next.
+    #[tactic(auto, using(crate::proofs::Standing::end_rules))]
+    pub fn end(&mut self) -> Option<Place>
+        ensures found { result ≡ place_of l.End self.old }
+        ensures left { self.new ≡ after result self.old }
+    {
+        let (first, others) = next(self.left)?;
+        match first.what {
+            Lexeme::End => {
+                let place = first.place;
+                self.left = others;
+                Some(place)
+            }
+            _ => None,
+        }
+    }
+
+    /// Whether no token is left.
+    pub fn is_empty(&self) -> bool
+        ensures { IsTrue result ↔ (self.now ≡ []) }
+    {
+        self.left.is_empty()
+    }
+
+    /// The node of an atom, which is taken if it comes next.
+    #[tactic(auto, using(crate::proofs::Standing::kind_rules))]
+    pub fn atom(&mut self) -> Result<Option<(ExprKind, Place)>, Stop>
+        ensures { Takes (kind_at self.old) true result self.old self.new }
+    {
+        let Some((first, others)) = next(self.left) else {
+            return Ok(None);
+        };
+        let place = first.place;
+        let Some(kind) = atom_kind(&first.what, place)? else {
+            return Ok(None);
+        };
+        self.left = others;
+        Ok(Some((kind, place)))
+    }
+
+    /// Takes a binary operator from this level on, if one comes next and there is room for it.
+    #[tactic(auto, using(crate::proofs::Standing::op_rules))]
+    pub fn operator_if(&mut self, least: u8, room: bool) -> Result<Option<(Operator, Place)>, Stop>
+        ensures { Takes (op_at least self.old) room (found_op result) self.old self.new }
+    {
+        let Some((first, others)) = next(self.left) else {
+            return Ok(None);
+        };
+        let Some(operator) = binary_operator(&first.what) else {
+            return Ok(None);
+        };
+        if operator.level() < least {
+            return Ok(None);
+        }
+        if !room {
+            return Err(Stop::Deep);
+        }
+        self.left = others;
+        Ok(Some((operator, first.place)))
+    }
+
+    /// Takes a unary operator, if one comes next and there is room for it.
+    #[tactic(auto, using(crate::proofs::Standing::unary_rules))]
+    pub fn unary_if(&mut self, room: bool) -> Result<Option<(Unary, Place)>, Stop>
+        ensures { Takes (unary_at self.old) room result self.old self.new }
+    {
+        let Some((first, others)) = next(self.left) else {
+            return Ok(None);
+        };
+        let Some(operator) = unary(&first.what) else {
+            return Ok(None);
+        };
+        if !room {
+            return Err(Stop::Deep);
+        }
+        self.left = others;
+        Ok(Some((operator, first.place)))
+    }
+
+    /// Whether an expression may begin with the next token.
+    #[tactic(auto, using(crate::proofs::Standing::begins_rules))]
+    pub fn begins_expr(&self) -> bool
+        ensures { result ≡ begins_at self.now }
+    {
+        let Some((first, _)) = next(self.left) else {
+            return false;
+        };
+        match first.what {
+            Lexeme::Name(_) | Lexeme::Int(_) | Lexeme::Text(_) => true,
+            Lexeme::Word(Word::Nil | Word::True | Word::False | Word::Function | Word::Not) => true,
+            Lexeme::Sign(
+                Sign::DotDotDot
+                | Sign::OpenParen
+                | Sign::OpenBrace
+                | Sign::Hash
+                | Sign::Minus
+                | Sign::Tilde,
+            ) => true,
+            _ => false,
+        }
+    }
+
+    /// The next token.
+    pub fn first(&self) -> &Token
+        requires { 1 ≤ length self.now }
+        ensures { self.now ≡ result.now ∷ drop 1 self.now }
+    {
+        &self.left[0]
+    }
+}

@@ -1,0 +1,79 @@
+//! Lists of expressions.
+
+ghost use Rattle.std.specs.Prelude.{◌≡◌, ◌≤◌, IfOk, OnOk};
+ghost use Rattle.lua_grammar.specs.Expressions as spec;
+ghost use Rattle.lua_grammar.specs.Statements.{parts};
+ghost use Rattle.lua_parser.specs.Nests.{Nests};
+ghost use Rattle.lua_parser.specs.Reads.{Reads};
+
+use crate::cursor::Tokens;
+use crate::parts::{Part, Parts};
+use crate::stop::Stop;
+use lua_grammar::Measured;
+use lua_tokens::Sign;
+use lua_tree::{Expr, Stat};
+use sqlite_items::Items;
+use std::alloc::{AllocError, Global};
+
+/// A list of nothing.
+pub fn nothing<T>(alloc: Global) -> Measured<Items<T>>
+    ensures { result ≡ spec.nothing }
+{
+    Measured::new(Items::new(alloc), 0)
+}
+
+/// Puts this at the end of a list.
+pub fn push<T: Drop>(list: &mut Measured<Items<T>>, one: Measured<T>) -> Result<(), AllocError>
+    ensures { OnOk result (list.new ≡ spec.with_one list.old one) }
+{
+    let Measured { what, depth } = one;
+    list.what.push(what)?;
+    list.depth = list.depth.max(depth);
+    Ok(())
+}
+
+/// A list of this alone.
+pub fn only<T: Drop>(alloc: Global, one: Measured<T>) -> Result<Measured<Items<T>>, AllocError>
+    ensures { IfOk result (λ list. list ≡ spec.only one) }
+{
+    let Measured { what, depth } = one;
+    let mut list = Vec::with_capacity(alloc, 1)?;
+    list.push_reserved(what);
+    Ok(Measured::new(Items::from_vec(list), depth))
+}
+
+impl<E, B> Parts<E, B>
+where
+    E: Fn(Global, &mut Tokens<'_>, usize, Part) -> Result<Measured<Expr>, Stop> + Copy,
+    B: Fn(Global, &mut Tokens<'_>, usize) -> Result<Measured<Items<Stat>>, Stop> + Copy,
+{
+    /// The expressions that go on with a list.
+    #[tactic(auto, using(crate::proofs::ListTurns::list_rules))]
+    pub fn more_exprs(
+        &self,
+        tokens: &mut Tokens<'_>,
+        first: Measured<Items<Expr>>,
+    ) -> Result<Measured<Items<Expr>>, Stop>
+        requires { Nests self.now.depth (E.pre self.now.parts) (E.post self.now.parts) (B.pre self.now.blocks) (B.post self.now.blocks) }
+        ensures { Reads (spec.more_exprs (parts self.now.depth) first tokens.old) result tokens.new }
+    {
+        let mut found = first;
+        'more: while let Some(_) = tokens.sign(Sign::Comma) {
+            push(&mut found, self.inner_expr(tokens, 0)?)?;
+        }
+        Ok(found)
+    }
+
+    /// A list of expressions.
+    #[tactic(auto, using(crate::proofs::Low::exprs_low), unfolding(lua_grammar::specs::Expressions::list))]
+    pub fn list(&self, tokens: &mut Tokens<'_>) -> Result<Measured<Items<Expr>>, Stop>
+        requires { Nests self.now.depth (E.pre self.now.parts) (E.post self.now.parts) (B.pre self.now.blocks) (B.post self.now.blocks) }
+        ensures list { Reads (spec.list (parts self.now.depth) tokens.old) result tokens.new }
+        ensures low { IfOk result (λ list. list.depth ≤ self.now.depth) }
+    {
+        let first = self.inner_expr(tokens, 0)?;
+        let begun = only(self.alloc, first)?;
+        let list = self.more_exprs(tokens, begun)?;
+        Ok(list)
+    }
+}

@@ -1,0 +1,59 @@
+//! Operands.
+
+ghost use Rattle.std.specs.Prelude.{true};
+ghost use Rattle.lua_grammar.specs.Expressions as spec;
+ghost use Rattle.lua_grammar.specs.Statements.{parts};
+ghost use Rattle.lua_parser.specs.Nests.{Nests};
+ghost use Rattle.lua_parser.specs.Reads.{Reads};
+
+use crate::cursor::Tokens;
+use crate::nodes;
+use crate::parts::{Part, Parts};
+use crate::stop::Stop;
+use lanes_arena::Row;
+use lua_grammar::Measured;
+use lua_tokens::{Sign, Word};
+use lua_tree::{Expr, Stat};
+use sqlite_items::Items;
+use std::alloc::Global;
+
+/// The level of the operands of unary operators.
+const UNARY: u8 = 11;
+
+impl<E, B> Parts<E, B>
+where
+    E: Fn(Global, &mut Tokens<'_>, usize, Part) -> Result<Measured<Expr>, Stop> + Copy,
+    B: Fn(Global, &mut Tokens<'_>, usize) -> Result<Measured<Items<Stat>>, Stop> + Copy,
+{
+    /// An expression without a binary operator.
+    #[tactic(auto, using(crate::proofs::OperandTurns::operand_rules, crate::proofs::Low::unary_low))]
+    pub fn operand(&self, tokens: &mut Tokens<'_>) -> Result<Measured<Expr>, Stop>
+        requires { Nests self.now.depth (E.pre self.now.parts) (E.post self.now.parts) (B.pre self.now.blocks) (B.post self.now.blocks) }
+        ensures { Reads (spec.operand (parts self.now.depth) true tokens.old) result tokens.new }
+    {
+        if let Some((kind, place)) = tokens.atom()? {
+            return Ok(nodes::leaf(kind, place));
+        }
+        if let Some((name, place)) = tokens.name_if(true)? {
+            return self.suffixes(tokens, nodes::name_leaf(name, place));
+        }
+        let room = 1 <= self.depth;
+        if let Some(place) = tokens.sign_if(Sign::OpenParen, room)? {
+            let group = self.group(tokens, place)?;
+            return self.suffixes(tokens, group);
+        }
+        if let Some(place) = tokens.sign(Sign::OpenBrace) {
+            return self.table(tokens, place);
+        }
+        if let Some(place) = tokens.word_if(Word::Function, room)? {
+            let params = Row::of(Vec::new(self.alloc));
+            let body = self.function_body(tokens, place, params)?;
+            return Ok(nodes::function_node(self.alloc, place, body)?);
+        }
+        let Some((operator, place)) = tokens.unary_if(room)? else {
+            return Err(Stop::Bad);
+        };
+        let inner = self.inner_expr(tokens, UNARY)?;
+        Ok(nodes::unary_node(self.alloc, operator, place, inner)?)
+    }
+}

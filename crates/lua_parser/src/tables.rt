@@ -1,0 +1,115 @@
+//! Table constructors.
+
+ghost use Rattle.std.specs.Prelude.{◌≤◌, IfOk};
+ghost use Rattle.lua_grammar.specs.Expressions as spec;
+ghost use Rattle.lua_grammar.specs.Statements.{parts};
+ghost use Rattle.lua_parser.specs.Fields as fields;
+ghost use Rattle.lua_parser.specs.Nests.{Nests};
+ghost use Rattle.lua_parser.specs.Reads.{Reads};
+
+use crate::cursor::Tokens;
+use crate::parts::{Part, Parts};
+use crate::stop::Stop;
+use crate::{lists, nodes};
+use lanes_arena::Bytes;
+use lua_grammar::Measured;
+use lua_tokens::{Place, Sign};
+use lua_tree::{Expr, Field, Stat};
+use sqlite_items::Items;
+use std::alloc::Global;
+
+/// What follows a field: whether another one may come after it, or the table ends.
+#[tactic(auto, using(crate::proofs::FieldTurns::separator_rules))]
+fn separated(tokens: &mut Tokens<'_>) -> Result<bool, Stop>
+    ensures { Reads (fields.separator tokens.old) result tokens.new }
+{
+    if let Some(_) = tokens.sign(Sign::Comma) {
+        return Ok(true);
+    }
+    if let Some(_) = tokens.sign(Sign::Semicolon) {
+        return Ok(true);
+    }
+    if let Some(_) = tokens.sign(Sign::CloseBrace) {
+        return Ok(false);
+    }
+    Err(Stop::Bad)
+}
+
+impl<E, B> Parts<E, B>
+where
+    E: Fn(Global, &mut Tokens<'_>, usize, Part) -> Result<Measured<Expr>, Stop> + Copy,
+    B: Fn(Global, &mut Tokens<'_>, usize) -> Result<Measured<Items<Stat>>, Stop> + Copy,
+{
+    /// A field after the name that begins it.
+    #[tactic(auto, using(crate::proofs::FieldTurns::name_rules, crate::proofs::Low::first_low, crate::proofs::Low::rest_low))]
+    fn named_field(
+        &self,
+        tokens: &mut Tokens<'_>,
+        name: Bytes,
+        place: Place,
+    ) -> Result<Measured<Field>, Stop>
+        requires { Nests self.now.depth (E.pre self.now.parts) (E.post self.now.parts) (B.pre self.now.blocks) (B.post self.now.blocks) }
+        ensures field { Reads (fields.name_field (parts self.now.depth) name place tokens.old) result tokens.new }
+        ensures low { IfOk result (λ field. field.depth ≤ self.now.depth) }
+    {
+        if let Some(_) = tokens.sign(Sign::Equal) {
+            let Measured { what, depth } = self.inner_expr(tokens, 0)?;
+            return Ok(Measured::new(Field::Named(name, what), depth));
+        }
+        let Measured { what, depth } = self.inner_rest(tokens, nodes::name_leaf(name, place))?;
+        Ok(Measured::new(Field::Item(what), depth))
+    }
+
+    /// A field after the bracket that begins it.
+    #[tactic(auto, using(crate::proofs::Low::first_low), unfolding(crate::specs::Fields::key_field))]
+    fn keyed_field(&self, tokens: &mut Tokens<'_>) -> Result<Measured<Field>, Stop>
+        requires { Nests self.now.depth (E.pre self.now.parts) (E.post self.now.parts) (B.pre self.now.blocks) (B.post self.now.blocks) }
+        ensures field { Reads (fields.key_field (parts self.now.depth) tokens.old) result tokens.new }
+        ensures low { IfOk result (λ field. field.depth ≤ self.now.depth) }
+    {
+        let key = self.inner_expr(tokens, 0)?;
+        tokens.expect_sign(Sign::CloseBracket)?;
+        tokens.expect_sign(Sign::Equal)?;
+        let value = self.inner_expr(tokens, 0)?;
+        let depth = key.depth.max(value.depth);
+        Ok(Measured::new(Field::Keyed(key.what, value.what), depth))
+    }
+
+    #[tactic(auto, using(crate::proofs::FieldTurns::field_rules, crate::proofs::Low::first_low))]
+    fn field(&self, tokens: &mut Tokens<'_>) -> Result<Measured<Field>, Stop>
+        requires { Nests self.now.depth (E.pre self.now.parts) (E.post self.now.parts) (B.pre self.now.blocks) (B.post self.now.blocks) }
+        ensures field { Reads (fields.one_field (parts self.now.depth) tokens.old) result tokens.new }
+        ensures low { IfOk result (λ field. field.depth ≤ self.now.depth) }
+    {
+        let room = 1 <= self.depth;
+        if let Some((name, place)) = tokens.name_if(room)? {
+            let field = self.named_field(tokens, name, place)?;
+            return Ok(field);
+        }
+        if let Some(_) = tokens.sign_if(Sign::OpenBracket, room)? {
+            let field = self.keyed_field(tokens)?;
+            return Ok(field);
+        }
+        let Measured { what, depth } = self.inner_expr(tokens, 0)?;
+        Ok(Measured::new(Field::Item(what), depth))
+    }
+
+    /// A table constructor after the brace at this place.
+    #[tactic(auto, using(crate::proofs::FieldTurns::table_rules))]
+    pub fn table(&self, tokens: &mut Tokens<'_>, place: Place) -> Result<Measured<Expr>, Stop>
+        requires { Nests self.now.depth (E.pre self.now.parts) (E.post self.now.parts) (B.pre self.now.blocks) (B.post self.now.blocks) }
+        ensures { Reads (spec.table (parts self.now.depth) place tokens.old) result tokens.new }
+    {
+        let mut found = lists::nothing(self.alloc);
+        'fields: loop {
+            if let Some(_) = tokens.sign(Sign::CloseBrace) {
+                return Ok(nodes::table_node(place, found));
+            }
+            let field = self.field(tokens)?;
+            lists::push(&mut found, field)?;
+            if !separated(tokens)? {
+                return Ok(nodes::table_node(place, found));
+            }
+        }
+    }
+}
