@@ -503,10 +503,10 @@ impl<'a> Shown<'a> {
                 self.push(Piece::Block(block))?;
                 if let Some(step) = step {
                     self.put(b"-step")?;
-                    self.push(Piece::Expr(step))?;
+                    self.push(Piece::Expr(step.get()))?;
                 }
-                self.push(Piece::Expr(limit))?;
-                self.push(Piece::Expr(start))
+                self.push(Piece::Expr(limit.get()))?;
+                self.push(Piece::Expr(start.get()))
             }
             Stat::ForIn(names, values, block) => {
                 self.put(b"forin")?;
