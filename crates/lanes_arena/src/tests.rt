@@ -1,5 +1,5 @@
 //! Values and texts by number, with ample memory.
-use crate::{Arena, ArenaFault, Memory, Names};
+use crate::{Arena, ArenaFault, Bytes, Memory, Names};
 
 #[test]
 fn values_keep_their_numbers(rt: HostRuntime) {
@@ -44,4 +44,17 @@ fn a_name_gives_its_text(rt: HostRuntime) {
     assert!(rt; text_again(&mut names, b"one") == Ok(b"one".as_slice()));
     assert!(rt; text_again(&mut names, b"two") == Ok(b"two".as_slice()));
     assert!(rt; text_again(&mut names, b"one") == Ok(b"one".as_slice()));
+}
+
+#[test]
+fn parts_and_copies_of_a_text_are_its_bytes(rt: HostRuntime) -> Result<(), Memory> {
+    let text = Bytes::of(rt.alloc(), b"local x")?;
+    let name = text.part(6, 7)?;
+    let word = text.part(0, 5)?.part(1, 5)?;
+    let again = word.copy()?;
+    assert!(rt; name.as_slice() == b"x".as_slice());
+    assert!(rt; word.as_slice() == b"ocal".as_slice() && again == word);
+    assert!(rt; text.part(7, 7)?.as_slice() == b"".as_slice());
+    assert!(rt; text.as_slice() == b"local x".as_slice());
+    Ok(())
 }

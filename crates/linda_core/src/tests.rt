@@ -165,6 +165,19 @@ fn copies_replies_with_values(rt: HostRuntime) -> Result<(), Memory> {
 }
 
 #[test]
+fn copies_lists_of_both_kinds(rt: HostRuntime) -> Result<(), Memory> {
+    let alloc = rt.alloc();
+    let text = text_key(alloc, b"k")?;
+    let keys = Row::of(vec![in alloc; Key::Int(1), text]?);
+    assert!(rt; copies_call(alloc, LindaOp::Count { keys })?);
+    let text = Item::Text(Bytes::of(alloc, b"v")?);
+    let values = Row::of(vec![in alloc; Item::Int(4), text]?);
+    let key = Key::Bool(true);
+    assert!(rt; copies_reply(alloc, LindaReply::Got { key, values })?);
+    Ok(())
+}
+
+#[test]
 fn copies_plain_replies(rt: HostRuntime) -> Result<(), Memory> {
     let alloc = rt.alloc();
     for reply in [

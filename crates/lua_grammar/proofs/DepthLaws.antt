@@ -13,23 +13,23 @@ use Rattle.lua_tree.specs.declared.operator.Unary.{Unary}
 use Rattle.lua_tokens.specs.declared.place.Place.{Place}
 use Rattle.lua_grammar.specs.Tokens.{Op, or, and, plain}
 use Rattle.lua_grammar.specs.Erasure.{node, block_of, body_of, branch_of, text_node, name_node, index_node, op_kind, atom_kind, target_of, self_of, params_of, params_dots, names_of, is_const, declared_of, args_place, expr_of, args_of, exps_of, tail_of, fields_of, field_of, function_of, stats_of, stat_of, arms_of, else_of, step_of, values_of, tree_of}
-use Rattle.lua_grammar.specs.Depth.{greatest, depth_of, kind_depth, field_depth, stat_depth, expr_depth as expr_layer, block_depth, body_depth, branch_depth, depth_of_expr, depth_of_stat, depths_of_stats}
+use Rattle.lua_grammar.specs.Depth.{greatest, depth_of, kind_depth, field_depth, stat_depth, expr_depth as expr_layer, pair_depth, block_depth, body_depth, branch_depth, depth_of_expr, depth_of_stat, depths_of_stats}
 use Rattle.lua_grammar.specs.Written.{Bytes, Atom, nil, yes, no, int, quote, dots, Colon, no_colon, colon, Exp, atom, function, variable, group, field, item, call, method, table, unary, binary, Args, listed, braced, quoted, Exps, none, some, Tail, end_tail, more, Fields, no_fields, last_field, more_fields, Field as written_field, single, titled, keyed, Body as written_body, body, Stats, empty, stat, answer, Stat as written_stat, skip, assign, run, leave, nest, loop, repeat, branch, count, each, define, define_local, declare, Arms, over, otherwise, further, Step, no_step, step, Values, no_values, values}
 use Rattle.lua_grammar.proofs.Heights.{target_height, height, args_height, exps_height, tail_height, fields_height, field_height, body_height, stats_height, stat_height, arms_height, step_height, values_height}
 
 -- ---- the depth of each form of the tree
 
 abbrev depth_of_field : Field → ℕ
-depth_of_field = fold-Field ℕ ℕ ℕ ℕ ℕ ℕ ℕ kind_depth field_depth stat_depth expr_layer block_depth body_depth branch_depth
+depth_of_field = fold-Field ℕ ℕ ℕ ℕ ℕ ℕ ℕ ℕ kind_depth field_depth stat_depth expr_layer pair_depth block_depth body_depth branch_depth
 
 abbrev depth_of_block : Block → ℕ
-depth_of_block = fold-Block ℕ ℕ ℕ ℕ ℕ ℕ ℕ kind_depth field_depth stat_depth expr_layer block_depth body_depth branch_depth
+depth_of_block = fold-Block ℕ ℕ ℕ ℕ ℕ ℕ ℕ ℕ kind_depth field_depth stat_depth expr_layer pair_depth block_depth body_depth branch_depth
 
 abbrev depth_of_body : Body → ℕ
-depth_of_body = fold-Body ℕ ℕ ℕ ℕ ℕ ℕ ℕ kind_depth field_depth stat_depth expr_layer block_depth body_depth branch_depth
+depth_of_body = fold-Body ℕ ℕ ℕ ℕ ℕ ℕ ℕ ℕ kind_depth field_depth stat_depth expr_layer pair_depth block_depth body_depth branch_depth
 
 abbrev depth_of_branch : Branch → ℕ
-depth_of_branch = fold-Branch ℕ ℕ ℕ ℕ ℕ ℕ ℕ kind_depth field_depth stat_depth expr_layer block_depth body_depth branch_depth
+depth_of_branch = fold-Branch ℕ ℕ ℕ ℕ ℕ ℕ ℕ ℕ kind_depth field_depth stat_depth expr_layer pair_depth block_depth body_depth branch_depth
 
 abbrev depths : List Expr → ℕ
 depths es = greatest (map depth_of_expr es)

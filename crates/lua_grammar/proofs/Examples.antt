@@ -14,7 +14,7 @@ use Rattle.lua_tree.specs.declared.operator.Binary.TheVariants as b
 use Rattle.lua_tree.specs.declared.operator.Unary.TheVariants as u
 use Rattle.lua_grammar.specs.Tokens.{sign, word, name, finish, const_name}
 use Rattle.lua_grammar.specs.Written.{Bytes}
-use Rattle.lua_grammar.specs.Erasure.{node, name_node, block_of}
+use Rattle.lua_grammar.specs.Erasure.{node, name_node, block_of, pair}
 use Rattle.lua_grammar.specs.Input.{Outcome, Why, bad, deep, attribute, on, expect, before, attribute_name, loop, many}
 use Rattle.lua_grammar.specs.Expressions.{more_exprs, list, in_parens, suffixes, named_field, keyed_field, table, parameters, function_body, group, operand, climb, from_level, rest_of}
 use Rattle.lua_grammar.specs.Statements.{after_do, after_while, after_repeat, condition, after_else, more_arms, after_if, for_step, for_numbers, for_names, for_each, after_for, attrib, more_declared, values, local_names, local_function, after_local, path, defined, after_path, after_function, target_from, target, assigned, prefixes, begun, after_open, returned, semicolon, after_return, more_stats, block, levels, script}
@@ -206,22 +206,22 @@ unfolding on expect before attribute_name loop many more_exprs list in_parens su
 example-31 = refl
 
 -- - x .. x
-example-32 : script 60 (nm ∷ sg s.Equal ∷ sg s.Minus ∷ nm ∷ sg s.DotDot ∷ nm ∷ over) ≡ Ok (record { block = block_of (st.Assign (var ∷ []) (node (k.Binary b.Concat (node (k.Unary u.Neg var) here) var) here ∷ []) ∷ []) }, [])
+example-32 : script 60 (nm ∷ sg s.Equal ∷ sg s.Minus ∷ nm ∷ sg s.DotDot ∷ nm ∷ over) ≡ Ok (record { block = block_of (st.Assign (var ∷ []) (node (k.Binary b.Concat (pair (node (k.Unary u.Neg var) here) var)) here ∷ []) ∷ []) }, [])
 unfolding on expect before attribute_name loop many more_exprs list in_parens suffixes named_field keyed_field table parameters function_body group operand climb from_level rest_of after_do after_while after_repeat condition after_else more_arms after_if for_step for_numbers for_names for_each after_for attrib more_declared values local_names local_function after_local path defined after_path after_function target_from target assigned prefixes begun after_open returned semicolon after_return more_stats block levels script
 example-32 = refl
 
 -- not x == x
-example-33 : script 60 (nm ∷ sg s.Equal ∷ wd w.Not ∷ nm ∷ sg s.EqualEqual ∷ nm ∷ over) ≡ Ok (record { block = block_of (st.Assign (var ∷ []) (node (k.Binary b.Eq (node (k.Unary u.Not var) here) var) here ∷ []) ∷ []) }, [])
+example-33 : script 60 (nm ∷ sg s.Equal ∷ wd w.Not ∷ nm ∷ sg s.EqualEqual ∷ nm ∷ over) ≡ Ok (record { block = block_of (st.Assign (var ∷ []) (node (k.Binary b.Eq (pair (node (k.Unary u.Not var) here) var)) here ∷ []) ∷ []) }, [])
 unfolding on expect before attribute_name loop many more_exprs list in_parens suffixes named_field keyed_field table parameters function_body group operand climb from_level rest_of after_do after_while after_repeat condition after_else more_arms after_if for_step for_numbers for_names for_each after_for attrib more_declared values local_names local_function after_local path defined after_path after_function target_from target assigned prefixes begun after_open returned semicolon after_return more_stats block levels script
 example-33 = refl
 
 -- x .. x .. x groups to the right
-example-34 : script 60 (nm ∷ sg s.Equal ∷ nm ∷ sg s.DotDot ∷ nm ∷ sg s.DotDot ∷ nm ∷ over) ≡ Ok (record { block = block_of (st.Assign (var ∷ []) (node (k.Binary b.Concat var (node (k.Binary b.Concat var var) here)) here ∷ []) ∷ []) }, [])
+example-34 : script 60 (nm ∷ sg s.Equal ∷ nm ∷ sg s.DotDot ∷ nm ∷ sg s.DotDot ∷ nm ∷ over) ≡ Ok (record { block = block_of (st.Assign (var ∷ []) (node (k.Binary b.Concat (pair var (node (k.Binary b.Concat (pair var var)) here))) here ∷ []) ∷ []) }, [])
 unfolding on expect before attribute_name loop many more_exprs list in_parens suffixes named_field keyed_field table parameters function_body group operand climb from_level rest_of after_do after_while after_repeat condition after_else more_arms after_if for_step for_numbers for_names for_each after_for attrib more_declared values local_names local_function after_local path defined after_path after_function target_from target assigned prefixes begun after_open returned semicolon after_return more_stats block levels script
 example-34 = refl
 
 -- x - x - x groups to the left
-example-35 : script 60 (nm ∷ sg s.Equal ∷ nm ∷ sg s.Minus ∷ nm ∷ sg s.Minus ∷ nm ∷ over) ≡ Ok (record { block = block_of (st.Assign (var ∷ []) (node (k.Binary b.Sub (node (k.Binary b.Sub var var) here) var) here ∷ []) ∷ []) }, [])
+example-35 : script 60 (nm ∷ sg s.Equal ∷ nm ∷ sg s.Minus ∷ nm ∷ sg s.Minus ∷ nm ∷ over) ≡ Ok (record { block = block_of (st.Assign (var ∷ []) (node (k.Binary b.Sub (pair (node (k.Binary b.Sub (pair var var)) here) var)) here ∷ []) ∷ []) }, [])
 unfolding on expect before attribute_name loop many more_exprs list in_parens suffixes named_field keyed_field table parameters function_body group operand climb from_level rest_of after_do after_while after_repeat condition after_else more_arms after_if for_step for_numbers for_names for_each after_for attrib more_declared values local_names local_function after_local path defined after_path after_function target_from target assigned prefixes begun after_open returned semicolon after_return more_stats block levels script
 example-35 = refl
 

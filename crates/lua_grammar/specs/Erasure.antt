@@ -2,6 +2,7 @@
 use Rattle.std.specs.Prelude.{ℕ, Bool, true, false, List, [], ◌∷◌, ◌++◌, Option, Some, None}
 use Rattle.lua_tokens.specs.declared.place.Place.{Place}
 use Rattle.lua_tree.specs.declared.expr.Expr.{Expr, roll-Expr}
+use Rattle.lua_tree.specs.declared.expr.Pair.{Pair}
 use Rattle.lua_tree.specs.declared.expr.ExprKind.{ExprKind}
 use Rattle.lua_tree.specs.declared.expr.ExprKind.TheVariants as k
 use Rattle.lua_tree.specs.declared.expr.Field as declared
@@ -35,13 +36,16 @@ text_node t p = node (k.Text t) p
 abbrev pub name_node : Bytes → Place → Expr
 name_node n p = node (k.Name n p) p
 
+abbrev pub pair : Expr → Expr → Pair
+pair x y = record { left = x; right = y }
+
 abbrev pub index_node : Expr → Place → Expr → Expr
-index_node e p x = node (k.Index e x) p
+index_node e p x = node (k.Index (pair e x)) p
 
 abbrev pub op_kind : Op → Expr → Expr → ExprKind
-op_kind or x y = k.Or x y
-op_kind and x y = k.And x y
-op_kind (plain op) x y = k.Binary op x y
+op_kind or x y = k.Or (pair x y)
+op_kind and x y = k.And (pair x y)
+op_kind (plain op) x y = k.Binary op (pair x y)
 
 abbrev pub atom_kind : Atom → Place → ExprKind
 atom_kind nil p = k.Nil

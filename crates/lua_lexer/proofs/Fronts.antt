@@ -1,5 +1,5 @@
 -- What stands in front of the rest.
-use Rattle.std.proofs.Common.{◌≡◌, refl, sym, ◌∙◌, ap, ℕ, ◌+◌, ◌-◌, ◌≤◌, Bool, true, false, if◌then◌else◌, not, nat_eq, ◌&&◌, ◌||◌, List, [], ◌∷◌, ◌++◌, append_assoc, length-append, length, take, drop, arith}
+use Rattle.std.proofs.Common.{◌≡◌, refl, sym, ◌∙◌, ap, subst, ℕ, ◌+◌, ◌-◌, ◌≤◌, Bool, true, false, if◌then◌else◌, not, nat_eq, ◌&&◌, ◌||◌, List, [], ◌∷◌, ◌++◌, append_assoc, length-append, length, take, drop, arith}
 use Rattle.std.specs.List.{list_all}
 use Rattle.std.proofs.lemmas.Bool.{eqb-true}
 use Rattle.std.proofs.lemmas.List.{take-append-drop}
@@ -31,6 +31,17 @@ suffix_short bs rest s = omega (arith, length-append {A = ℕ}, ap length s.whol
 
 pub suffix_ends : (bs rest : List ℕ) → Suffix bs rest → EndsWith bs rest
 suffix_ends bs rest s = (suffix_short bs rest s, back_cut s.front rest bs (sym s.whole))
+
+behind_first : (script bs rest : List ℕ) (b : ℕ) → EndsWith script bs → bs ≡ b ∷ rest → EndsWith script rest
+behind_first script bs rest b h e = suffix_ends script rest (suffix_trans script bs rest (subst (Suffix script) h.1 (suffix_drop (length script - length bs) script)) (record { front = b ∷ []; whole = e }))
+
+pub behind_short : (script bs rest : List ℕ) (b : ℕ) → EndsWith script bs → bs ≡ b ∷ rest → length rest ≤ length script
+behind_short script bs rest b h e = (behind_first script bs rest b h e).0
+
+pub behind_end : (script bs rest : List ℕ) (b : ℕ) → EndsWith script bs → bs ≡ b ∷ rest → drop (length script - length rest) script ≡ rest
+behind_end script bs rest b h e = (behind_first script bs rest b h e).1
+
+pub ruleset behind_rules = (behind_short, behind_end)
 
 -- ---- bytes that are no line ends
 

@@ -1,4 +1,5 @@
 pub mod Closes
+pub mod Table
 pub mod Words
 pub mod Runs
 pub mod LineEnds

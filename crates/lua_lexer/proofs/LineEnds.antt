@@ -1,6 +1,7 @@
 -- Line ends, one by one and in parts.
-use Rattle.std.proofs.Common.{◌≡◌, refl, sym, ◌∙◌, ap, ℕ, suc, ◌+◌, ◌<◌, Bool, true, false, if◌then◌else◌, nat_eq, ◌&&◌, ◌||◌, List, [], ◌∷◌, ◌++◌, append-nil, append_assoc, length, arith}
-use Rattle.lua_lexer.specs.Bytes.{is_line_end, is_pair, line_ends, line_feeds, past_line_end}
+use Rattle.std.proofs.Common.{◌≡◌, refl, sym, ◌∙◌, ap, ℕ, suc, ◌+◌, ◌<◌, Bool, true, false, if◌then◌else◌, not, nat_eq, ◌&&◌, ◌||◌, List, [], ◌∷◌, ◌++◌, append-nil, append_assoc, length, arith}
+use Rattle.lua_lexer.specs.Bytes.{is_line_end, is_inline, is_pair, past, line_ends, line_feeds, past_line_end}
+use Rattle.lua_lexer.proofs.Runs.{past_short, past_twice}
 
 -- ---- line ends
 
@@ -49,9 +50,10 @@ past_line_end_shorter v b rest e n = rw e (shorter rest)
 
 pub ruleset feed_rules = (feeds_end, feeds_plain, feeds_line, past_line_end_shorter)
 
-pub line_none : (v : List ℕ) → v ≡ [] → line_ends v ≡ 0
+pub line_none : (v : List ℕ) → length v ≡ 0 → line_ends v ≡ 0
 unfolding line_ends
-line_none v e = rw e refl
+line_none [] e = refl
+line_none (b ∷ bs) e = absurd (omega (arith, e))
 
 pub other_first : (b : ℕ) (rest : List ℕ) → is_line_end b ≡ false → line_ends (b ∷ rest) ≡ line_ends rest
 unfolding line_ends
@@ -67,13 +69,44 @@ end_first b (c ∷ rest) e = by (is_pair b c)
     by true = refl
     by false = rw e refl
 
-pub line_other : (v : List ℕ) (b : ℕ) (rest : List ℕ) → v ≡ b ∷ rest → is_line_end b ≡ false → line_ends v ≡ line_ends rest
-line_other v b rest e n = rw e (other_first b rest n)
-
-pub line_end : (v : List ℕ) (b : ℕ) (rest : List ℕ) → v ≡ b ∷ rest → is_line_end b ≡ true → line_ends v ≡ line_ends (past_line_end v) + 1
+line_end : (v : List ℕ) (b : ℕ) (rest : List ℕ) → v ≡ b ∷ rest → is_line_end b ≡ true → line_ends v ≡ line_ends (past_line_end v) + 1
 line_end v b rest e n = rw e (end_first b rest n ∙ omega arith)
 
-pub ruleset line_rules = (line_none, line_other, line_end, past_line_end_shorter)
+inline_by : (b : ℕ) (bs : List ℕ) (v : Bool) → is_line_end b ≡ v → line_ends (past is_inline bs) ≡ line_ends bs → line_ends (if not v then past is_inline bs else b ∷ bs) ≡ line_ends (b ∷ bs)
+inline_by b bs true e h = refl
+inline_by b bs false e h = h ∙ sym (other_first b bs e)
+
+pub inline_ends : (bs : List ℕ) → line_ends (past is_inline bs) ≡ line_ends bs
+inline_ends [] = refl
+inline_ends (b ∷ bs) = inline_by b bs (is_line_end b) refl (inline_ends bs)
+
+-- nothing of a line stands in front
+stops_at : (b : ℕ) (bs : List ℕ) → past is_inline (b ∷ bs) ≡ b ∷ bs → is_line_end b ≡ true
+stops_at b bs e = by (is_line_end b) refl e
+  where
+    by : (v : Bool) → is_line_end b ≡ v → (if not v then past is_inline bs else b ∷ bs) ≡ b ∷ bs → v ≡ true
+    by true n h = refl
+    by false n h = absurd (omega (arith, past_short is_inline bs, ap length h))
+
+pub stopped_end : (v : List ℕ) → past is_inline v ≡ v → 0 < length v → line_ends v ≡ line_ends (past_line_end v) + 1
+stopped_end [] e n = absurd (omega (arith, n))
+stopped_end (b ∷ bs) e n = line_end (b ∷ bs) b bs refl (stops_at b bs e)
+
+pub stopped_shorter : (v : List ℕ) → past is_inline v ≡ v → 0 < length v → length (past_line_end v) < length v
+stopped_shorter [] e n = absurd (omega (arith, n))
+stopped_shorter (b ∷ bs) e n = past_line_end_shorter (b ∷ bs) b bs refl (stops_at b bs e)
+
+pub line_start : (bs v : List ℕ) → v ≡ past is_inline bs → line_ends v ≡ line_ends bs
+line_start bs v e = rw e (inline_ends bs)
+
+pub start_stops : (bs v : List ℕ) → v ≡ past is_inline bs → past is_inline v ≡ v
+start_stops bs v e = rw e (past_twice is_inline bs)
+
+pub turn_count : (v m w : List ℕ) → past is_inline v ≡ v → 0 < length v → m ≡ past_line_end v → w ≡ past is_inline m → line_ends v ≡ line_ends w + 1
+turn_count v m w s n e f = rw (line_start m w f, e) (stopped_end v s n)
+
+pub turn_short : (v m w : List ℕ) → past is_inline v ≡ v → 0 < length v → m ≡ past_line_end v → w ≡ past is_inline m → length w < length v
+turn_short v m w s n e f = omega (arith, stopped_shorter v s n, past_short is_inline m, ap length e, ap length f)
 
 -- ---- in parts
 

@@ -89,5 +89,8 @@ shared_text script bs text h e =
 
 pub ruleset shared_rules = (shared_start, shared_end, shared_text)
 
+pub run_begins : (p : ℕ → Bool) (bs text : List ℕ) → text ≡ run p bs → take (length text) bs ≡ text
+run_begins p bs text e = rw e (subst (λ z. take (length (run p bs)) z ≡ run p bs) (run_past p bs) (take-append_seam (run p bs) (past p bs)))
+
 pub run_front : (bs text : List ℕ) → text ≡ run is_word bs → take (length text) bs ≡ text
-run_front bs text e = rw e (subst (λ z. take (length (run is_word bs)) z ≡ run is_word bs) (run_past is_word bs) (take-append_seam (run is_word bs) (past is_word bs)))
+run_front bs text e = run_begins is_word bs text e

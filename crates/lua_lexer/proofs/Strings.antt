@@ -1,5 +1,5 @@
 -- Quoted strings.
-use Rattle.std.proofs.Common.{◌≡◌, refl, sym, ◌∙◌, ap, subst, ℕ, zero, suc, ◌+◌, ◌-◌, ◌*◌, ◌≤◌, ◌<◌, Bool, true, false, if◌then◌else◌, nat_eq, nat_le, nat_lt, ◌&&◌, ◌||◌, not, List, [], ◌∷◌, ◌++◌, append_assoc, append-nil, eq-eqb, length, Option, Some, None, Ok, Err, arith}
+use Rattle.std.proofs.Common.{◌≡◌, refl, sym, ◌∙◌, ap, subst, ℕ, zero, suc, ◌+◌, ◌-◌, ◌*◌, ◌≤◌, ◌<◌, Bool, true, false, if◌then◌else◌, nat_eq, nat_le, nat_lt, ◌&&◌, ◌||◌, not, List, [], ◌∷◌, ◌++◌, append_assoc, append-nil, eq-eqb, length, take, Option, Some, None, Ok, Err, arith}
 use Rattle.std.proofs.lemmas.Bool.{eqb-true}
 use Rattle.lua_lexer.specs.declared.stop.Why.{Why}
 use Rattle.lua_lexer.specs.declared.stop.Why.TheVariants.{BadEscape, OpenString}
@@ -7,7 +7,7 @@ use Rattle.lua_lexer.specs.Bytes.{past, run, is_digit, is_hex_digit, is_line_end
 use Rattle.lua_lexer.specs.Spellings.{is_plain, decimal, decimal_escape, hex_escape, code_point, unicode_escape, other_escape, letter_or_other, letter_escape, escape, Quoted, close, plain, escaped, Broken, ends, wrong, behind_plain, behind_escape, hex_number, utf8}
 use Rattle.lua_lexer.specs.Tokens.{text}
 use Rattle.lua_lexer.specs.Reading.{Outcome, Stop, put_front, after_escape, quoted, string, texted}
-use Rattle.lua_lexer.proofs.Runs.{past_short}
+use Rattle.lua_lexer.proofs.Runs.{past_short, run_begins}
 use Rattle.lua_lexer.proofs.Fronts.{Suffix, suffix_refl, suffix_cons, suffix_trans, suffix_past, suffix_short, past_line_end_suffix, Solid, solid_behind}
 
 -- ---- behind an escape stands an end of the bytes
@@ -276,3 +276,12 @@ pub texted_err : (at : List ℕ) (quote : ℕ) (bs : List ℕ) (stop : Stop) →
 texted_err at quote bs stop e h = ap texted (string_breaks at quote (quote_is quote e) bs stop h)
 
 pub ruleset texted_rules = (texted_ok, texted_err)
+
+-- ---- a string without escapes
+
+pub plain_text : (at : List ℕ) (quote : ℕ) (bs value v behind : List ℕ) (b : ℕ) → is_quote quote ≡ true → value ≡ run (is_plain quote) bs → v ≡ past (is_plain quote) bs → v ≡ b ∷ behind → b ≡ quote
+    → texted (string at quote bs) ≡ Ok (text value, behind)
+plain_text at quote bs value v behind b q f p e k = texted_ok at quote bs value behind q (string_end at quote bs [] value bs v behind b (λ value rest h. h) f p e k)
+
+pub plain_front : (quote : ℕ) (bs value : List ℕ) → value ≡ run (is_plain quote) bs → take (length value) bs ≡ value
+plain_front quote bs value e = run_begins (is_plain quote) bs value e

@@ -1,7 +1,6 @@
 -- One token after the other.
 use Rattle.std.proofs.Common.{◌≡◌, refl, sym, ◌∙◌, ap, subst, ℕ, true, false, List, [], ◌∷◌, ◌++◌, append_assoc, Ok, Err}
-use Rattle.std.specs.Prelude.{Result, IsErrAnd, Vec}
-use Rattle.std.specs.declared.alloc.Global.{Global}
+use Rattle.std.specs.Prelude.{Result, IsErrAnd}
 use Rattle.lua_lexer.specs.declared.stop.Why.{Why}
 use Rattle.lua_tokens.specs.declared.Token.{Token}
 use Rattle.lua_lexer.specs.Tokens.{Lex, Gap, Mark, place, line, mark, Step, LexesFrom, Lexes, Stuck, FailsFrom, LexFails}
@@ -70,7 +69,7 @@ module _ (script : List ℕ) where
 
 -- ---- faults
 
-pub passed_on : (script : List ℕ) (r : Result (Vec Token Global) Stop) (e : Stop) → IsErrAnd r (λ z. z ≡ e) → Answers script (Err e) → Answers script r
+pub passed_on : (script : List ℕ) (r : Result (List Token) Stop) (e : Stop) → IsErrAnd r (λ z. z ≡ e) → Answers script (Err e) → Answers script r
 passed_on script (Ok v) e k h = absurd k
 passed_on script (Err x) e k h = subst (λ (z : Stop). Answers script (Err z)) (sym k) h
 

@@ -1,5 +1,5 @@
 -- Texts that are equal.
-use Rattle.std.proofs.Common.{◌≡◌, refl, ℕ, Bool, true, false, nat_eq, ◌&&◌, List, [], ◌∷◌, arith}
+use Rattle.std.proofs.Common.{◌≡◌, refl, eq-eqb, ℕ, Bool, true, false, nat_eq, ◌&&◌, List, [], ◌∷◌, arith}
 use Rattle.std.proofs.lemmas.Bool.{eqb-true}
 use Rattle.lua_lexer.specs.Spellings.{is_text}
 
@@ -19,3 +19,10 @@ no_text bs cs n = by (is_text bs cs) refl
     by : (v : Bool) → is_text bs cs ≡ v → v ≡ false
     by true e = absurd (n (is_same bs cs e))
     by false e = refl
+
+pub text_self : (bs : List ℕ) → is_text bs bs ≡ true
+text_self [] = refl
+text_self (b ∷ bs) = rw (eq-eqb b b refl, text_self bs) refl
+
+pub same_text : (bs cs : List ℕ) → bs ≡ cs → is_text bs cs ≡ true
+same_text bs cs e = rw e (text_self cs)

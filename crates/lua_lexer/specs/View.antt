@@ -109,8 +109,8 @@ ReadsString at quote bs (Err (At why rest)) = Broken at quote bs (why, rest.now)
 ReadsString at quote bs (Err Memory) = Unit {0}
 
 -- the tokens of the script, or its fault with the bytes from its place on
-abbrev pub Answers : List ℕ → Result (Vec Token Global) Stop → Type 0
-Answers script (Ok v) = Lexes script (marks v.items)
+abbrev pub Answers : List ℕ → Result (List Token) Stop → Type 0
+Answers script (Ok ts) = Lexes script (marks ts)
 Answers script (Err (At why rest)) = LexFails script (why, rest.now)
 Answers script (Err Memory) = Unit {0}
 

@@ -15,13 +15,37 @@ pub fn is_letter(b: u8) -> bool
 {
     let small = b'a' <= b && b <= b'z';
     let capital = b'A' <= b && b <= b'Z';
-    small | capital | (b == b'_')
+    small || capital || b == b'_'
 }
 
+/// Which bytes may stand in a word, by number.
+static WORD_BYTES: [bool; 256] = [
+    false, false, false, false, false, false, false, false, false, false, false, false, false,
+    false, false, false, false, false, false, false, false, false, false, false, false, false,
+    false, false, false, false, false, false, false, false, false, false, false, false, false,
+    false, false, false, false, false, false, false, false, false, true, true, true, true, true,
+    true, true, true, true, true, false, false, false, false, false, false, false, true, true,
+    true, true, true, true, true, true, true, true, true, true, true, true, true, true, true, true,
+    true, true, true, true, true, true, true, true, false, false, false, false, true, false, true,
+    true, true, true, true, true, true, true, true, true, true, true, true, true, true, true, true,
+    true, true, true, true, true, true, true, true, true, false, false, false, false, false, false,
+    false, false, false, false, false, false, false, false, false, false, false, false, false,
+    false, false, false, false, false, false, false, false, false, false, false, false, false,
+    false, false, false, false, false, false, false, false, false, false, false, false, false,
+    false, false, false, false, false, false, false, false, false, false, false, false, false,
+    false, false, false, false, false, false, false, false, false, false, false, false, false,
+    false, false, false, false, false, false, false, false, false, false, false, false, false,
+    false, false, false, false, false, false, false, false, false, false, false, false, false,
+    false, false, false, false, false, false, false, false, false, false, false, false, false,
+    false, false, false, false, false, false, false, false, false, false, false, false, false,
+    false, false, false, false, false, false, false, false, false, false,
+];
+
+#[tactic(auto, using(crate::proofs::Table::word_byte))]
 pub fn is_word(b: u8) -> bool
     ensures { result ≡ spec.is_word b }
 {
-    is_letter(b) | is_digit(b)
+    WORD_BYTES[b as usize]
 }
 
 pub fn is_hex_digit(b: u8) -> bool
@@ -42,10 +66,18 @@ pub fn is_line_end(b: u8) -> bool
     b == b'\n' || b == b'\r'
 }
 
+/// Which bytes up to the space are blanks, by number.
+static BLANK_BYTES: [bool; 33] = [
+    false, false, false, false, false, false, false, false, false, true, true, true, true, true,
+    false, false, false, false, false, false, false, false, false, false, false, false, false,
+    false, false, false, false, false, true,
+];
+
+#[tactic(auto, using(crate::proofs::Table::blank_rules))]
 pub fn is_blank(b: u8) -> bool
     ensures { result ≡ spec.is_blank b }
 {
-    b == b' ' || (b'\t' <= b && b <= b'\r')
+    b <= b' ' && BLANK_BYTES[b as usize]
 }
 
 /// Whether the two are one line end.
@@ -139,20 +171,15 @@ pub fn past_line_end(bytes: &[u8]) -> &[u8]
 }
 
 /// How many line ends there are.
-#[tactic(auto, using(crate::proofs::LineEnds::line_rules))]
 pub fn line_ends(bytes: &[u8]) -> usize
     ensures count { result ≡ spec.line_ends bytes.now }
     ensures few { result ≤ length bytes.now }
 {
-    let mut left = bytes;
+    let mut left = past_line(bytes);
     let mut count = 0;
-    while let Some((first, rest)) = next(left) {
-        if is_line_end(first) {
-            count += 1;
-            left = past_line_end(left);
-        } else {
-            left = rest;
-        }
+    while !left.is_empty() {
+        count += 1;
+        left = past_line(past_line_end(left));
     }
     count
 }

@@ -86,6 +86,8 @@ pub fn dashes(bytes: &[u8]) -> Option<&[u8]>
 }
 
 /// What stands behind the comment of which these bytes stand behind its `--`; none where its long bracket isn't closed.
+/// A call of its own keeps the loop over blanks short.
+#[inline(never)]
 fn comment(bytes: &[u8]) -> Option<&[u8]>
     ensures { seen_bytes result ≡ spec.comment bytes.now }
 {

@@ -11,7 +11,7 @@ use crate::gap::gap;
 use crate::spelling::spelling;
 use crate::stop::Stop;
 use lanes_arena::Bytes;
-use lua_tokens::{Lexeme, Place, Token};
+use lua_tokens::{Lexeme, Place, Token, TokenList};
 use std::alloc::Global;
 
 /// The script without a first line that begins with `#`.
@@ -41,12 +41,12 @@ fn lines(what: &Lexeme, here: &[u8], rest: &[u8]) -> usize
 }
 
 /// The tokens of a script, or why there are none. The names share the bytes of the text, which is the script.
-pub fn all<'a>(alloc: Global, text: &Bytes, script: &'a [u8]) -> Result<Vec<Token>, Stop<'a>>
+pub fn all<'a>(alloc: Global, text: &Bytes, script: &'a [u8]) -> Result<TokenList, Stop<'a>>
     requires same { text.now ≡ script.now }
     requires within { length script.now ≤ 1048576 }
     ensures { Answers script.now result }
 {
-    let mut found = Vec::with_capacity(alloc, script.len() / 3 + 1)?;
+    let mut found = TokenList::new(alloc);
     let mut left = past_first(script);
     let mut line: u32 = 1;
     loop {

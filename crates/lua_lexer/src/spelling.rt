@@ -68,7 +68,8 @@ fn bracketed<'a>(
 }
 
 /// The token that stands here, the end included, or why none does. The bytes are the end of the script.
-#[tactic(auto, unfolding(crate::specs::Reading::spelling))]
+#[inline(always)]
+#[tactic(auto, using(crate::proofs::Fronts::behind_rules), unfolding(crate::specs::Reading::spelling))]
 pub fn spelling<'a>(
     alloc: Global,
     script: &Bytes,
@@ -85,7 +86,7 @@ pub fn spelling<'a>(
     } else if begins_numeral(first, rest) {
         numeral_at(bytes)
     } else if is_quote(first) {
-        string_at(alloc, bytes, first, rest)
+        string_at(alloc, script, bytes, first, rest)
     } else {
         bracketed(alloc, bytes, first, rest)
     }

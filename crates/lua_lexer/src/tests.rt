@@ -329,8 +329,8 @@ fn split_case(case: &[u8]) -> (&[u8], &[u8]) {
 
 fn expect_tokens(rt: &impl Abort, alloc: Global, case: &[u8]) -> Result<(), Fail> {
     let (script, wanted) = split_case(case);
-    let found = tokens(alloc, &Bytes::of(alloc, script)?)?;
-    let text = shown(alloc, &found)?;
+    let mut found = tokens(alloc, &Bytes::of(alloc, script)?)?;
+    let text = shown(alloc, &found.take_block())?;
     assert_eq!(rt; text.as_slice(), wanted, "at {script:?}");
     Ok(())
 }
@@ -381,8 +381,8 @@ fn expect_place(
     number: usize,
     wanted: Place,
 ) -> Result<(), Fail> {
-    let found = tokens(alloc, &Bytes::of(alloc, script)?)?;
-    let place = found.get(number).map(|token| token.place);
+    let mut found = tokens(alloc, &Bytes::of(alloc, script)?)?;
+    let place = found.take_block().get(number).map(|token| token.place);
     assert_eq!(rt; place, Some(wanted), "at {script:?}");
     Ok(())
 }
@@ -481,7 +481,8 @@ fn places_of_tokens(rt: HostRuntime) -> Result<(), Fail> {
 fn longest_script(rt: HostRuntime) -> Result<(), Fail> {
     let mut blanks = vec![in rt.alloc(); b' '; 1048576]?;
     let longest = Bytes::of(rt.alloc(), &blanks)?;
-    assert_eq!(rt; tokens(rt.alloc(), &longest)?.len(), 1);
+    let mut found = tokens(rt.alloc(), &longest)?;
+    assert_eq!(rt; found.take_block().len(), 1);
     blanks.push(b' ')?;
     let longer = Bytes::from_vec(blanks)?;
     assert_eq!(rt; tokens(rt.alloc(), &longer).err(), Some(LexFault::TooLong));

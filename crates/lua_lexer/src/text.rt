@@ -10,6 +10,7 @@ use crate::bytes::{is_line_end, next, past_line_end};
 use crate::escape::{escape, put};
 use crate::gap::up_to_close;
 use crate::stop::{Stop, Why};
+use crate::word::shared;
 use lanes_arena::Bytes;
 use lua_tokens::Lexeme;
 use std::alloc::Global;
@@ -45,16 +46,17 @@ fn split_plain(quote: u8, bytes: &[u8]) -> (&[u8], &[u8])
     (run, behind)
 }
 
-/// A string, behind its quote. `at` is the script from the quote on.
+/// A string, behind its quote. `at` is the script from the quote on. Room is made for this many bytes of it at first.
 fn string<'a>(
     alloc: Global,
     at: &'a [u8],
     quote: u8,
     bytes: &'a [u8],
+    room: usize,
 ) -> Result<(Vec<u8>, &'a [u8]), Stop<'a>>
     ensures { ReadsString at.now quote bytes.now result }
 {
-    let mut found = Vec::new(alloc);
+    let mut found = Vec::with_capacity(alloc, room)?;
     let mut left = bytes;
     loop {
         let (run, rest) = split_plain(quote, left);
@@ -76,21 +78,44 @@ fn string<'a>(
     }
 }
 
-/// The string that begins with this quote.
+/// The string, whose bytes are stored apart from the script.
 #[tactic(auto, using(crate::proofs::Strings::texted_rules))]
-pub fn string_at<'a>(
+fn stored<'a>(
     alloc: Global,
     at: &'a [u8],
     quote: u8,
     bytes: &'a [u8],
+    room: usize,
 ) -> Result<(Lexeme, &'a [u8]), Stop<'a>>
     requires { byte.is_quote quote ≡ true }
     ensures { Reads lex (spec.texted (spec.string at.now quote bytes.now)) result }
 {
-    match string(alloc, at, quote, bytes) {
+    match string(alloc, at, quote, bytes, room) {
         Ok((text, rest)) => Ok((Lexeme::Text(Bytes::from_vec(text)?), rest)),
         Err(stop) => Err(stop),
     }
+}
+
+/// The string that begins with this quote. It shares the bytes of the script where no escape stands in it.
+#[tactic(auto, using(crate::proofs::Strings::plain_front))]
+pub fn string_at<'a>(
+    alloc: Global,
+    script: &Bytes,
+    at: &'a [u8],
+    quote: u8,
+    bytes: &'a [u8],
+) -> Result<(Lexeme, &'a [u8]), Stop<'a>>
+    requires quote { byte.is_quote quote ≡ true }
+    requires stands { byte.EndsWith script.now bytes.now }
+    ensures { Reads lex (spec.texted (spec.string at.now quote bytes.now)) result }
+{
+    let (run, rest) = split_plain(quote, bytes);
+    if let Some((first, behind)) = next(rest)
+        && first == quote
+    {
+        return Ok((Lexeme::Text(shared(script, bytes, run)?), behind));
+    }
+    stored(alloc, at, quote, bytes, run.len() + 8)
 }
 
 /// The bytes with each line end as one line feed.

@@ -1,67 +1,134 @@
 //! Names and reserved words.
 
-ghost use Rattle.std.specs.Prelude.{◌≡◌, length, take, IfOk, IfErr};
+ghost use Rattle.std.specs.Prelude.{◌≡◌, ◌∷◌, if◌then◌else◌, length, take, IfOk, IfErr};
 ghost use Rattle.lua_lexer.specs.Bytes.{run, past, is_word, EndsWith};
 ghost use Rattle.lua_lexer.specs.Spellings as spell;
 ghost use Rattle.lua_lexer.specs.Reading as spec;
 ghost use Rattle.lua_lexer.specs.View.{Reads, lex};
 
-use crate::bytes::past_word;
+use crate::bytes::{next, past_word};
 use crate::stop::Stop;
 use lanes_arena::Bytes;
 use lua_tokens::{Lexeme, Word};
 
-/// The reserved word that is spelled so.
+/// The word, where these bytes are the others of its spelling.
+#[tactic(auto, using(crate::proofs::Words::no_text, crate::proofs::Words::same_text))]
+fn word_if(rest: &[u8], others: &[u8], word: Word) -> Option<Word>
+    ensures { result ≡ (if spell.is_text rest.now others.now then Some word else None) }
+{
+    if rest == others { Some(word) } else { None }
+}
+
+/// The reserved word that is spelled by `e` and these bytes.
 #[tactic(auto, using(crate::proofs::Words::no_text), unfolding(crate::specs::Spellings::keyword))]
+fn behind_e(rest: &[u8]) -> Option<Word>
+    ensures { result ≡ spell.keyword (101 ∷ rest.now) }
+{
+    if rest == b"lse".as_slice() {
+        Some(Word::Else)
+    } else if rest == b"lseif".as_slice() {
+        Some(Word::Elseif)
+    } else if rest == b"nd".as_slice() {
+        Some(Word::End)
+    } else {
+        None
+    }
+}
+
+/// The reserved word that is spelled by `f` and these bytes.
+#[tactic(auto, using(crate::proofs::Words::no_text), unfolding(crate::specs::Spellings::keyword))]
+fn behind_f(rest: &[u8]) -> Option<Word>
+    ensures { result ≡ spell.keyword (102 ∷ rest.now) }
+{
+    if rest == b"alse".as_slice() {
+        Some(Word::False)
+    } else if rest == b"or".as_slice() {
+        Some(Word::For)
+    } else if rest == b"unction".as_slice() {
+        Some(Word::Function)
+    } else {
+        None
+    }
+}
+
+/// The reserved word that is spelled by `i` and these bytes.
+#[tactic(auto, using(crate::proofs::Words::no_text), unfolding(crate::specs::Spellings::keyword))]
+fn behind_i(rest: &[u8]) -> Option<Word>
+    ensures { result ≡ spell.keyword (105 ∷ rest.now) }
+{
+    if rest == b"f".as_slice() {
+        Some(Word::If)
+    } else if rest == b"n".as_slice() {
+        Some(Word::In)
+    } else {
+        None
+    }
+}
+
+/// The reserved word that is spelled by `n` and these bytes.
+#[tactic(auto, using(crate::proofs::Words::no_text), unfolding(crate::specs::Spellings::keyword))]
+fn behind_n(rest: &[u8]) -> Option<Word>
+    ensures { result ≡ spell.keyword (110 ∷ rest.now) }
+{
+    if rest == b"il".as_slice() {
+        Some(Word::Nil)
+    } else if rest == b"ot".as_slice() {
+        Some(Word::Not)
+    } else {
+        None
+    }
+}
+
+/// The reserved word that is spelled by `r` and these bytes.
+#[tactic(auto, using(crate::proofs::Words::no_text), unfolding(crate::specs::Spellings::keyword))]
+fn behind_r(rest: &[u8]) -> Option<Word>
+    ensures { result ≡ spell.keyword (114 ∷ rest.now) }
+{
+    if rest == b"epeat".as_slice() {
+        Some(Word::Repeat)
+    } else if rest == b"eturn".as_slice() {
+        Some(Word::Return)
+    } else {
+        None
+    }
+}
+
+/// The reserved word that is spelled by `t` and these bytes.
+#[tactic(auto, using(crate::proofs::Words::no_text), unfolding(crate::specs::Spellings::keyword))]
+fn behind_t(rest: &[u8]) -> Option<Word>
+    ensures { result ≡ spell.keyword (116 ∷ rest.now) }
+{
+    if rest == b"hen".as_slice() {
+        Some(Word::Then)
+    } else if rest == b"rue".as_slice() {
+        Some(Word::True)
+    } else {
+        None
+    }
+}
+
+/// The reserved word that is spelled so. The first byte tells most names from all of them.
+#[tactic(auto, unfolding(crate::specs::Spellings::keyword))]
 fn keyword(text: &[u8]) -> Option<Word>
     ensures { result ≡ spell.keyword text.now }
 {
-    if text == b"and".as_slice() {
-        Some(Word::And)
-    } else if text == b"break".as_slice() {
-        Some(Word::Break)
-    } else if text == b"do".as_slice() {
-        Some(Word::Do)
-    } else if text == b"else".as_slice() {
-        Some(Word::Else)
-    } else if text == b"elseif".as_slice() {
-        Some(Word::Elseif)
-    } else if text == b"end".as_slice() {
-        Some(Word::End)
-    } else if text == b"false".as_slice() {
-        Some(Word::False)
-    } else if text == b"for".as_slice() {
-        Some(Word::For)
-    } else if text == b"function".as_slice() {
-        Some(Word::Function)
-    } else if text == b"goto".as_slice() {
-        Some(Word::Goto)
-    } else if text == b"if".as_slice() {
-        Some(Word::If)
-    } else if text == b"in".as_slice() {
-        Some(Word::In)
-    } else if text == b"local".as_slice() {
-        Some(Word::Local)
-    } else if text == b"nil".as_slice() {
-        Some(Word::Nil)
-    } else if text == b"not".as_slice() {
-        Some(Word::Not)
-    } else if text == b"or".as_slice() {
-        Some(Word::Or)
-    } else if text == b"repeat".as_slice() {
-        Some(Word::Repeat)
-    } else if text == b"return".as_slice() {
-        Some(Word::Return)
-    } else if text == b"then".as_slice() {
-        Some(Word::Then)
-    } else if text == b"true".as_slice() {
-        Some(Word::True)
-    } else if text == b"until".as_slice() {
-        Some(Word::Until)
-    } else if text == b"while".as_slice() {
-        Some(Word::While)
-    } else {
-        None
+    let (first, rest) = next(text)?;
+    match first {
+        b'a' => word_if(rest, b"nd", Word::And),
+        b'b' => word_if(rest, b"reak", Word::Break),
+        b'd' => word_if(rest, b"o", Word::Do),
+        b'e' => behind_e(rest),
+        b'f' => behind_f(rest),
+        b'g' => word_if(rest, b"oto", Word::Goto),
+        b'i' => behind_i(rest),
+        b'l' => word_if(rest, b"ocal", Word::Local),
+        b'n' => behind_n(rest),
+        b'o' => word_if(rest, b"r", Word::Or),
+        b'r' => behind_r(rest),
+        b't' => behind_t(rest),
+        b'u' => word_if(rest, b"ntil", Word::Until),
+        b'w' => word_if(rest, b"hile", Word::While),
+        _ => None,
     }
 }
 
@@ -78,7 +145,7 @@ fn split_word(bytes: &[u8]) -> (&[u8], &[u8])
 
 /// The text that begins the bytes, which end the script. It shares the bytes of the script.
 #[tactic(auto, using(crate::proofs::Runs::shared_rules))]
-fn shared<'a>(script: &Bytes, bytes: &'a [u8], text: &[u8]) -> Result<Bytes, Stop<'a>>
+pub fn shared<'a>(script: &Bytes, bytes: &'a [u8], text: &[u8]) -> Result<Bytes, Stop<'a>>
     requires stands { EndsWith script.now bytes.now }
     requires begins { take (length text.now) bytes.now ≡ text.now }
     ensures name { IfOk result (λ name. name ≡ text.now) }
@@ -89,6 +156,7 @@ fn shared<'a>(script: &Bytes, bytes: &'a [u8], text: &[u8]) -> Result<Bytes, Sto
 }
 
 /// The name or the reserved word that stands here.
+#[inline(always)]
 #[tactic(auto, using(crate::proofs::Runs::run_front), unfolding(crate::specs::Reading::word_at))]
 pub fn word_at<'a>(script: &Bytes, bytes: &'a [u8]) -> Result<(Lexeme, &'a [u8]), Stop<'a>>
     requires { EndsWith script.now bytes.now }

@@ -1,3 +1,4 @@
+pub mod TokenBlocks
 pub mod NextFound
 pub mod BlockDepths
 pub mod ArmTurns

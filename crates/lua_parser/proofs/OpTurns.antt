@@ -1,5 +1,6 @@
 -- Binary operators, and the turns of climbing over them.
-use Rattle.std.proofs.Common.{◌≡◌, refl, sym, ◌∙◌, ap, ℕ, ◌+◌, ◌<◌, nat_le, Bool, true, false, List, length, Some, None, Ok, Err}
+use Rattle.std.proofs.Common.{◌≡◌, refl, sym, ◌∙◌, ap, ℕ, ◌+◌, ◌<◌, nat_le, Bool, true, false, List, length, Option, Some, None, Ok, Err}
+use Rattle.std.specs.Option.{is_some}
 use Rattle.lua_tokens.specs.declared.place.Place.{Place}
 use Rattle.lua_tokens.specs.declared.token.Token.{Token}
 use Rattle.lua_tree.specs.declared.expr.Expr.{Expr}
@@ -9,7 +10,7 @@ use Rattle.lua_grammar.specs.declared.measured.Measured.{Measured}
 use Rattle.lua_grammar.specs.Tokens.{Op, plain, op_level, right_level}
 use Rattle.lua_grammar.specs.Next.{an_op_from}
 use Rattle.lua_grammar.specs.Input.{Stop, deep, and_then, pure, again}
-use Rattle.lua_grammar.specs.Expressions.{binary_node, op_turn, climb}
+use Rattle.lua_grammar.specs.Expressions.{binary_node, op_turn, climb, operand, from_level}
 use Rattle.lua_grammar.specs.Statements.{parts}
 use Rattle.lua_grammar.proofs.Levels.{parts_depth}
 use Rattle.lua_grammar.proofs.Loops.{many_done, many_fails, many_again}
@@ -62,5 +63,25 @@ module _ (d m : ℕ) (x : Measured Expr) (ts : List Token) where
   pub op_less : (op : Op) (p : Place) (y : Measured Expr) (us : List Token) → op_at m ts ≡ Some (op, p) → nat_le x.depth d ≡ true
       → (parts d).expr (right_level (op_level op)) (rest ts) ≡ Ok (y, us) → length us < length ts
   op_less op p y us h r k = turn_less (op_turn (parts d) m) (op_shrinks (parts d) (parts_shorter d) m) x (binary_node op p x y) ts us (turn_on op p y us h r k)
+
+-- ---- an operand before them
+
+none_of : {B : Type 0} (o : Option B) → is_some o ≡ false → o ≡ None
+none_of None e = refl
+none_of (Some b) e = cc
+
+module _ (d m : ℕ) (ts : List Token) where
+  pub level_climbs : (x : Measured Expr) (us : List Token) → operand (parts d) true ts ≡ Ok (x, us) → from_level (parts d) true m ts ≡ climb (parts d) m x us
+  unfolding from_level
+  level_climbs x us h = ap (λ r. and_then r (climb (parts d) m)) h
+
+  pub level_alone : (x : Measured Expr) (us : List Token) → operand (parts d) true ts ≡ Ok (x, us) → is_some (op_at m us) ≡ false → from_level (parts d) true m ts ≡ Ok (x, us)
+  level_alone x us h n = level_climbs x us h ∙ op_end d m x us (none_of (op_at m us) n)
+
+  pub level_stop : (stop : Stop) → operand (parts d) true ts ≡ Err stop → from_level (parts d) true m ts ≡ Err stop
+  unfolding from_level
+  level_stop stop h = ap (λ r. and_then r (climb (parts d) m)) h
+
+pub ruleset level_rules = (level_climbs, level_alone, level_stop)
 
 pub ruleset climb_rules = (op_more, op_stop, op_deep, op_end, op_less)

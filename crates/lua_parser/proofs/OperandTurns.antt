@@ -18,7 +18,8 @@ use Rattle.lua_grammar.specs.Input.{Outcome, Parser, Stop, bad, deep, and_then, 
 use Rattle.lua_grammar.specs.Expressions.{measured, leaf, name_leaf, function_node, unary_node, suffixes, table, function_body, group, operand, climb, from_level}
 use Rattle.lua_grammar.specs.Statements.{parts, no_parts}
 use Rattle.lua_grammar.proofs.Levels.{parts_depth, expr_flat}
-use Rattle.lua_parser.specs.Looks.{rest, place_of, beside, name_at, kind_in, kind_at, unary_at, begins, begins_at}
+use Rattle.lua_parser.specs.Looks.{rest, place_of, beside, name_at, kind_in, kind_at, unary_at, begins, begins_at, suffix_at}
+use Rattle.lua_parser.proofs.SuffixTurns.{suffix_none}
 use Rattle.lua_parser.proofs.Steps.{is_hit, is_deep, is_miss, look_hit, look_deep, look_miss, name_hit, name_miss}
 
 roomy : (d : ℕ) (c : Bool) → nat_le 1 d ≡ c → nat_le 1 (parts d).depth ≡ c
@@ -58,6 +59,9 @@ module _ (d : ℕ) (ts : List Token) where
   pub operand_name : (n : Bytes) (p : Place) → kind_at ts ≡ None → name_at ts ≡ Some (n, p) → operand (parts d) true ts ≡ suffixes (parts d) (name_leaf n p) (rest ts)
   unfolding operand
   operand_name n p a h = atom_miss _ ts a ∙ name_hit _ _ _ ts n p h refl
+
+  pub operand_name_alone : (n : Bytes) (p : Place) → kind_at ts ≡ None → name_at ts ≡ Some (n, p) → suffix_at (rest ts) ≡ false → operand (parts d) true ts ≡ Ok (name_leaf n p, rest ts)
+  operand_name_alone n p a h k = operand_name n p a h ∙ suffix_none d (name_leaf n p) (rest ts) k
 
   at_group : (p : Place) → kind_at ts ≡ None → name_at ts ≡ None → place_of (l.Sign s.OpenParen) ts ≡ Some p → nat_le 1 d ≡ true
       → operand (parts d) true ts ≡ and_then (group (parts d) p (rest ts)) (suffixes (parts d))
@@ -133,6 +137,7 @@ module _ (d : ℕ) (ts : List Token) where
 pub ruleset operand_rules = (
   operand_atom,
   operand_name,
+  operand_name_alone,
   operand_group,
   operand_group_stop,
   operand_group_deep,

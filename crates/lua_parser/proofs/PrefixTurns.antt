@@ -20,6 +20,8 @@ use Rattle.lua_grammar.specs.declared.measured.Ends.{Ends}
 use Rattle.lua_grammar.specs.Expressions.{on_call}
 use Rattle.lua_grammar.proofs.Loops.{AtTurn, many_again, many_done}
 use Rattle.lua_parser.specs.Steps.{index_step, call_step}
+use Rattle.lua_parser.specs.Looks.{suffix_at}
+use Rattle.lua_parser.proofs.SuffixTurns.{none_indexed, none_called}
 use Rattle.lua_parser.proofs.SuffixSteps.{by_step, index_by, call_by, index_kept, call_kept}
 
 abbrev pub start : Measured Expr → Ends → Prefix
@@ -147,7 +149,11 @@ module _ (d : ℕ) (e x y : Measured Expr) (w : Ends) (ts us vs : List Token) wh
   unfolding spec.prefixes
   prefix_end h f = prefix_over d e w ts x y us vs h f
 
-pub ruleset prefix_rules = (prefix_index, prefix_index_stops, prefix_index_less, prefix_call, prefix_call_stops, prefix_call_less, prefix_end)
+module _ (d : ℕ) (e : Measured Expr) (w : Ends) (ts : List Token) where
+  pub prefix_none : suffix_at ts ≡ false → over d spec.prefixes (start e w) ts ≡ Ok (start e w, ts)
+  prefix_none n = prefix_end d e e e w ts ts ts (none_indexed (d - 1) e ts n) (none_called (d - 1) e ts n)
+
+pub ruleset prefix_rules = (prefix_index, prefix_index_stops, prefix_index_less, prefix_call, prefix_call_stops, prefix_call_less, prefix_end, prefix_none)
 
 -- ---- a statement that begins so
 

@@ -1,6 +1,8 @@
 -- What stands at a cursor, by the next token.
 use Rattle.std.proofs.Common.{◌≡◌, refl, sym, ◌∙◌, ap, ℕ, nat_eq, nat_le, ◌-◌, ◌<◌, ◌≤◌, Bool, true, false, if◌then◌else◌, ◌&&◌, List, [], ◌∷◌, length, take, drop, Option, Some, None, Ok, Err, arith}
+use Rattle.std.specs.Option.{is_some}
 use Rattle.std.proofs.lemmas.Bool.{eq-eqb, eqb-true, lt-leb, le-leb}
+use Rattle.lua_tokens.specs.declared.place.Place.{Place}
 use Rattle.lua_tokens.specs.declared.token.Token.{Token}
 use Rattle.lua_tokens.specs.declared.token.Lexeme.{Lexeme}
 use Rattle.lua_tokens.specs.declared.token.Lexeme.TheVariants as l
@@ -10,29 +12,28 @@ use Rattle.lua_tree.specs.declared.expr.ExprKind.{ExprKind}
 use Rattle.lua_tree.specs.declared.operator.Unary.{Unary}
 use Rattle.lua_grammar.specs.Input.{bad, attribute, attribute_name}
 use Rattle.lua_grammar.specs.Tokens.{Op, op_level, const_name}
-use Rattle.lua_grammar.specs.Written.{Bytes}
+use Rattle.lua_grammar.specs.Written.{Bytes, Atom}
 use Rattle.lua_grammar.specs.Next.{lexeme_number, same, a_name, a_text, an_atom, an_op, of_level, a_unary, ends_return}
 use Rattle.std.specs.Cmp.Lexicographic.{pointwise}
 use Rattle.lua_grammar.proofs.Local.{attribute_refused, attribute_taken, attribute_other}
 use Rattle.lua_grammar.proofs.Found.{IsFixed, is_found}
-use Rattle.lua_parser.specs.Looks.{rest, place_of, beside, look_at, name_at, text_at, kind_in, kind_at, op_at, unary_at, begins, begins_at, ends_at}
+use Rattle.lua_parser.specs.Looks.{rest, what_of, place_of, beside, look_at, name_at, text_at, kind_in, kind_at, op_at, unary_at, begins, begins_at, ends_at, is_suffix, suffix_at}
 
 pub rest_nil : rest [] ≡ []
 unfolding rest
 rest_nil = refl
 
-take_all : (ts : List Token) → take (length ts) ts ≡ ts
-take_all [] = refl
-take_all (x ∷ ts) = ap (λ z. x ∷ z) (take_all ts)
-
-pub rest_drop : (ts : List Token) → take (length ts - 1) (drop 1 ts) ≡ rest ts
-unfolding rest
-rest_drop [] = refl
-rest_drop (x ∷ ts) = let e : length (x ∷ ts) - 1 ≡ length ts = omega arith in ap (λ n. take n ts) e ∙ take_all ts
-
 pub rest_next : (x : Token) (ts : List Token) → rest (x ∷ ts) ≡ ts
 unfolding rest
 rest_next x ts = refl
+
+pub what_nil : what_of [] ≡ l.End
+unfolding what_of
+what_nil = refl
+
+pub what_next : (x : Token) (ts : List Token) → what_of (x ∷ ts) ≡ x.what
+unfolding what_of
+what_next x ts = refl
 
 -- ---- a word or a sign
 
@@ -170,13 +171,13 @@ pub ruleset ends_rules = (ends_nil, ends_next)
 
 pub ruleset end_rules = (rest_next, place_nil, end_hit, end_miss)
 
-pub ruleset sign_rules = (rest_drop, place_nil, sign_hit, sign_miss)
+pub ruleset sign_rules = (place_nil, sign_hit, sign_miss)
 
-pub ruleset word_rules = (rest_drop, place_nil, word_hit, word_miss)
+pub ruleset word_rules = (place_nil, word_hit, word_miss)
 
-pub ruleset name_rules = (rest_next, name_nil, name_hit, name_miss)
+pub ruleset name_rules = (rest_next, what_next, name_nil, name_hit, name_miss)
 
-pub ruleset text_rules = (rest_next, text_nil, text_hit, text_miss)
+pub ruleset text_rules = (rest_next, what_next, text_nil, text_hit, text_miss)
 
 -- ---- atoms and operators
 
@@ -187,6 +188,21 @@ kind_nil = refl
 pub kind_next : (x : Token) (ts : List Token) (o : Option ExprKind) → o ≡ kind_in (an_atom x.what) x.place → kind_at (x ∷ ts) ≡ beside o x.place
 unfolding kind_at
 kind_next x ts o e = ap (λ o. beside o x.place) (sym e)
+
+-- what is no atom has no node, and what is one has a node
+pub kind_none : (y : Lexeme) (p : Place) → is_some (an_atom y) ≡ false → None ≡ kind_in (an_atom y) p
+kind_none y p e = by_atom (an_atom y) e
+  where
+    by_atom : (o : Option Atom) → is_some o ≡ false → None ≡ kind_in o p
+    by_atom None k = refl
+    by_atom (Some a) k = cc
+
+pub kind_some : (y : Lexeme) (p : Place) → is_some (an_atom y) ≡ true → None ≡ kind_in (an_atom y) p → ⊥
+kind_some y p e h = by_atom (an_atom y) e h
+  where
+    by_atom : (o : Option Atom) → is_some o ≡ true → None ≡ kind_in o p → ⊥
+    by_atom None k h = cc
+    by_atom (Some a) k h = cc
 
 pub op_nil : (m : ℕ) → op_at m [] ≡ None
 unfolding op_at look_at
@@ -207,6 +223,21 @@ pub op_hit : (m : ℕ) (x : Token) (ts : List Token) (o : Op) → Some o ≡ an_
 unfolding op_at look_at
 op_hit m x ts o e le = ap (λ o. beside (of_level m o) x.place) (sym e) ∙ ap (λ o. beside o x.place) (of_room m o true (le-leb m (op_level o) le))
 
+pub seen_nil : (m : ℕ) → is_some (op_at m []) ≡ false
+unfolding op_at look_at
+seen_nil m = refl
+
+pub seen_miss : (m : ℕ) (x : Token) (ts : List Token) → None ≡ an_op x.what → is_some (op_at m (x ∷ ts)) ≡ false
+seen_miss m x ts e = ap is_some (op_miss m x ts e)
+
+pub seen_op : (m : ℕ) (x : Token) (ts : List Token) (o : Op) → Some o ≡ an_op x.what → is_some (op_at m (x ∷ ts)) ≡ nat_le m (op_level o)
+unfolding op_at look_at
+seen_op m x ts o e = ap (λ o. is_some (beside (of_level m o) x.place)) (sym e) ∙ by_room (nat_le m (op_level o))
+  where
+    by_room : (c : Bool) → is_some (beside (if c then Some o else None) x.place) ≡ c
+    by_room true = refl
+    by_room false = refl
+
 pub unary_nil : unary_at [] ≡ None
 unfolding unary_at look_at
 unary_nil = refl
@@ -223,10 +254,22 @@ pub begins_next : (x : Token) (ts : List Token) (y : Lexeme) → x.what ≡ y �
 unfolding begins_at
 begins_next x ts y e = ap begins e
 
-pub ruleset kind_rules = (rest_next, kind_nil, kind_next)
+pub ruleset kind_rules = (rest_next, what_next, kind_nil, kind_next, kind_none, kind_some)
 
 pub ruleset op_rules = (rest_next, op_nil, op_miss, op_under, op_hit)
+
+pub ruleset seen_rules = (seen_nil, seen_miss, seen_op)
 
 pub ruleset unary_rules = (rest_next, unary_nil, unary_next)
 
 pub ruleset begins_rules = (begins_nil, begins_next)
+
+pub suffix_nil : suffix_at [] ≡ false
+unfolding suffix_at
+suffix_nil = refl
+
+pub suffix_next : (x : Token) (ts : List Token) (y : Lexeme) → x.what ≡ y → suffix_at (x ∷ ts) ≡ is_suffix y
+unfolding suffix_at
+suffix_next x ts y e = ap is_suffix e
+
+pub ruleset suffix_rules = (suffix_nil, suffix_next)

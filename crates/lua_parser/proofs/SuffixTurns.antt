@@ -1,8 +1,9 @@
 -- The indexes and calls that go on with an expression.
-use Rattle.std.proofs.Common.{◌≡◌, refl, sym, ◌∙◌, ap, ℕ, ◌<◌, nat_le, Bool, true, false, List, length, Option, Some, None, Ok, Err}
+use Rattle.std.proofs.Common.{◌≡◌, refl, sym, ◌∙◌, ap, ℕ, ◌<◌, nat_le, Bool, true, false, List, [], ◌∷◌, length, Option, Some, None, Ok, Err}
 use Rattle.lua_tokens.specs.declared.place.Place.{Place}
 use Rattle.lua_tokens.specs.declared.token.Token.{Token}
 use Rattle.lua_tokens.specs.declared.token.Lexeme.TheVariants as l
+use Rattle.lua_tokens.specs.declared.sign.Sign.{Sign}
 use Rattle.lua_tokens.specs.declared.sign.Sign.TheVariants as s
 use Rattle.lua_tree.specs.declared.expr.Expr.{Expr}
 use Rattle.lua_grammar.specs.declared.measured.Measured.{Measured}
@@ -14,12 +15,13 @@ use Rattle.lua_grammar.specs.Statements.{parts}
 use Rattle.lua_grammar.proofs.Levels.{parts_depth}
 use Rattle.lua_grammar.proofs.Loops.{many_done, many_fails, many_again}
 use Rattle.lua_grammar.proofs.Shorter.{parts_shorter, suffix_shrinks}
-use Rattle.lua_parser.specs.Looks.{rest, place_of, name_at}
+use Rattle.lua_parser.specs.Looks.{rest, place_of, name_at, text_at, is_suffix, suffix_at}
 use Rattle.lua_parser.specs.Steps.{args_step, index_step, call_step, bracketed}
 use Rattle.lua_parser.proofs.Less.{turn_less}
 use Rattle.lua_parser.proofs.Steps.{is_hit, is_deep, is_miss, name_hit, name_miss}
 use Rattle.lua_parser.proofs.SuffixSteps.{by_step, index_by, call_by, index_kept, call_kept}
-use Rattle.lua_parser.proofs.ArgTurns.{by_args, args_by}
+use Rattle.lua_parser.proofs.ArgTurns.{by_args, args_by, args_none}
+use Rattle.lua_parser.proofs.Standing.{place_nil, sign_miss, text_nil, text_miss, suffix_next}
 
 roomy : (d n : ℕ) (c : Bool) → nat_le n d ≡ c → nat_le n (parts d).depth ≡ c
 roomy d n c h = ap (nat_le n) (parts_depth d) ∙ h
@@ -128,6 +130,24 @@ pub ruleset index_rules = (index_dot, index_dot_bad, index_dot_deep, index_brack
 
 pub ruleset call_rules = (call_method, call_method_bad, call_method_stop, call_colon_bad, call_colon_deep, call_args, call_none, call_stop)
 
+-- ---- where none begins
+
+no_sign : (s : Sign) → is_suffix (l.Sign s) ≡ true → (ts : List Token) → suffix_at ts ≡ false → place_of (l.Sign s) ts ≡ None
+no_sign s i [] n = place_nil (l.Sign s)
+no_sign s i (x ∷ ts) n = sign_miss s x ts (λ e. let h : suffix_at (x ∷ ts) ≡ is_suffix (l.Sign s) = suffix_next x ts (l.Sign s) e in cc)
+
+no_text : (ts : List Token) → suffix_at ts ≡ false → text_at ts ≡ None
+no_text [] n = text_nil
+no_text (x ∷ ts) n = text_miss x ts (λ t e. let h : suffix_at (x ∷ ts) ≡ true = suffix_next x ts (l.Text t) e in cc)
+
+module _ (d : ℕ) (e : Measured Expr) (ts : List Token) (n : suffix_at ts ≡ false) where
+  pub none_indexed : index_step (parts d) e ts ≡ Ok ((e, false), ts)
+  none_indexed = index_none d e ts (no_sign s.Dot refl ts n) (no_sign s.OpenBracket refl ts n)
+
+  pub none_called : call_step (parts d) e ts ≡ Ok ((e, false), ts)
+  none_called = call_none d e ts ts (no_sign s.Colon refl ts n)
+      (args_none d (nat_le e.depth d) ts (no_sign s.OpenParen refl ts n) (no_sign s.OpenBrace refl ts n) (no_text ts n))
+
 -- ---- the turns
 
 module _ (d : ℕ) (e : Measured Expr) (ts : List Token) where
@@ -168,4 +188,7 @@ module _ (d : ℕ) (e : Measured Expr) (ts : List Token) where
   suffix_end x y us vs h k = many_done (suffix_turn (parts d)) (suffix_shrinks (parts d) (parts_shorter d)) e ts vs y
       (turn_call x us h ∙ ap (λ r. and_then r (by_step again (pure (done x)))) k ∙ ap (λ z. Ok (done z, vs)) (sym (call_kept (parts d) x us vs y k)))
 
-pub ruleset suffix_rules = (suffix_index, suffix_index_stop, suffix_index_less, suffix_call, suffix_call_stop, suffix_call_less, suffix_end)
+  pub suffix_none : suffix_at ts ≡ false → suffixes (parts d) e ts ≡ Ok (e, ts)
+  suffix_none n = suffix_end e e ts ts (none_indexed d e ts n) (none_called d e ts n)
+
+pub ruleset suffix_rules = (suffix_index, suffix_index_stop, suffix_index_less, suffix_call, suffix_call_stop, suffix_call_less, suffix_end, suffix_none)

@@ -17,9 +17,14 @@ use Rattle.lua_parser.specs.declared.stop.Stop.{Stop}
 use Rattle.lua_parser.specs.declared.stop.Stop.TheVariants as e
 
 -- the next token before the others
-abbrev pub joined : Option (Bor Token × Bor (List Token)) → List Token
-joined None = []
-joined (Some x) = x.0.now ∷ x.1.now
+abbrev pub begun : Option (Bor Token) → List Token → List Token
+begun None ts = []
+begun (Some x) ts = x.now ∷ ts
+
+-- what the next token is
+unfoldable pub what_of : List Token → Lexeme
+what_of [] = l.End
+what_of (x ∷ ts) = x.what
 
 -- the tokens after the next one
 unfoldable pub rest : List Token → List Token
@@ -84,6 +89,21 @@ begins _ = false
 unfoldable pub begins_at : List Token → Bool
 begins_at [] = false
 begins_at (x ∷ ts) = begins x.what
+
+-- whether an index or a call begins so
+abbrev pub is_suffix : Lexeme → Bool
+is_suffix (l.Text t) = true
+is_suffix (l.Sign s.OpenParen) = true
+is_suffix (l.Sign s.OpenBrace) = true
+is_suffix (l.Sign s.OpenBracket) = true
+is_suffix (l.Sign s.Colon) = true
+is_suffix (l.Sign s.Dot) = true
+is_suffix _ = false
+
+-- whether an index or a call begins with the next token
+unfoldable pub suffix_at : List Token → Bool
+suffix_at [] = false
+suffix_at (x ∷ ts) = is_suffix x.what
 
 -- whether the next token may follow `return` where it gives no values
 unfoldable pub ends_at : List Token → Bool

@@ -19,12 +19,12 @@ use std::alloc::Global;
 
 impl<E, B> Parts<E, B>
 where
-    E: Fn(Global, &mut Tokens<'_>, usize, Part) -> Result<Measured<Expr>, Stop> + Copy,
-    B: Fn(Global, &mut Tokens<'_>, usize) -> Result<Measured<Items<Stat>>, Stop> + Copy,
+    E: Fn(Global, &mut Tokens, usize, Part) -> Result<Measured<Expr>, Stop> + Copy,
+    B: Fn(Global, &mut Tokens, usize) -> Result<Measured<Items<Stat>>, Stop> + Copy,
 {
     /// Arguments after the parenthesis at this place.
     #[tactic(auto, using(crate::proofs::ArgTurns::parens_rules))]
-    pub fn in_parens(&self, tokens: &mut Tokens<'_>, place: Place) -> Result<Arguments, Stop>
+    pub fn in_parens(&self, tokens: &mut Tokens, place: Place) -> Result<Arguments, Stop>
         requires { Nests self.now.depth (E.pre self.now.parts) (E.post self.now.parts) (B.pre self.now.blocks) (B.post self.now.blocks) }
         ensures arguments { Reads (spec.in_parens (parts self.now.depth) place tokens.old) result tokens.new }
         ensures low { IfOk result (λ arguments. arguments.exprs.depth ≤ self.now.depth) }
@@ -42,7 +42,7 @@ where
 
     /// Arguments, if some come next. They are refused as too deep where there is no room.
     #[tactic(auto, using(crate::proofs::ArgTurns::args_rules, crate::proofs::Low::table_low))]
-    pub fn arguments(&self, tokens: &mut Tokens<'_>, room: bool) -> Result<Option<Arguments>, Stop>
+    pub fn arguments(&self, tokens: &mut Tokens, room: bool) -> Result<Option<Arguments>, Stop>
         requires { Nests self.now.depth (E.pre self.now.parts) (E.post self.now.parts) (B.pre self.now.blocks) (B.post self.now.blocks) }
         ensures arguments { Reads (args_step (parts self.now.depth) room tokens.old) result tokens.new }
         ensures here { IfOk result (λ found. IfSome found (λ _. IsTrue room)) }

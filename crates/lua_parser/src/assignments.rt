@@ -18,16 +18,12 @@ use std::alloc::Global;
 
 impl<E, B> Parts<E, B>
 where
-    E: Fn(Global, &mut Tokens<'_>, usize, Part) -> Result<Measured<Expr>, Stop> + Copy,
-    B: Fn(Global, &mut Tokens<'_>, usize) -> Result<Measured<Items<Stat>>, Stop> + Copy,
+    E: Fn(Global, &mut Tokens, usize, Part) -> Result<Measured<Expr>, Stop> + Copy,
+    B: Fn(Global, &mut Tokens, usize) -> Result<Measured<Items<Stat>>, Stop> + Copy,
 {
     /// A target that goes on with this.
     #[tactic(auto, using(crate::proofs::PrefixTurns::target_from_rules))]
-    pub fn target_from(
-        &self,
-        tokens: &mut Tokens<'_>,
-        first: Prefix,
-    ) -> Result<Measured<Expr>, Stop>
+    pub fn target_from(&self, tokens: &mut Tokens, first: Prefix) -> Result<Measured<Expr>, Stop>
         requires { Nests self.now.depth (E.pre self.now.parts) (E.post self.now.parts) (B.pre self.now.blocks) (B.post self.now.blocks) }
         ensures { Reads (over self.now.depth spec.target_from first tokens.old) result tokens.new }
     {
@@ -54,7 +50,7 @@ where
 
     /// A target after a comma.
     #[tactic(auto, using(crate::proofs::TargetSteps::target_rules))]
-    pub fn target(&self, tokens: &mut Tokens<'_>) -> Result<Measured<Expr>, Stop>
+    pub fn target(&self, tokens: &mut Tokens) -> Result<Measured<Expr>, Stop>
         requires { Nests self.now.depth (E.pre self.now.parts) (E.post self.now.parts) (B.pre self.now.blocks) (B.post self.now.blocks) }
         ensures { Reads (over self.now.depth spec.target tokens.old) result tokens.new }
     {
@@ -84,7 +80,7 @@ where
     #[tactic(auto, using(crate::proofs::TargetsTurns::targets_rules))]
     pub fn assigned(
         &self,
-        tokens: &mut Tokens<'_>,
+        tokens: &mut Tokens,
         found: Measured<Items<Expr>>,
     ) -> Result<Measured<Stat>, Stop>
         requires { Nests self.now.depth (E.pre self.now.parts) (E.post self.now.parts) (B.pre self.now.blocks) (B.post self.now.blocks) }
@@ -92,7 +88,7 @@ where
     {
         let mut targets = found;
         'targets: while let Some(_) = tokens.sign(Sign::Comma) {
-            push(&mut targets, self.target(tokens)?)?;
+            push(self.alloc, &mut targets, self.target(tokens)?)?;
         }
         tokens.expect_sign(Sign::Equal)?;
         let values = self.list(tokens)?;
@@ -102,13 +98,13 @@ where
 
     /// The indexes and calls that go on with what begins a statement.
     #[tactic(auto, using(crate::proofs::PrefixTurns::prefix_rules))]
-    pub fn prefixes(&self, tokens: &mut Tokens<'_>, first: Prefix) -> Result<Prefix, Stop>
+    pub fn prefixes(&self, tokens: &mut Tokens, first: Prefix) -> Result<Prefix, Stop>
         requires { Nests self.now.depth (E.pre self.now.parts) (E.post self.now.parts) (B.pre self.now.blocks) (B.post self.now.blocks) }
         ensures { Reads (over self.now.depth spec.prefixes first tokens.old) result tokens.new }
     {
         let Prefix { mut expr, mut ends } = first;
         let below = self.below(1);
-        'prefix: loop {
+        'prefix: while tokens.has_suffix() {
             let (indexed, is_index) = below.index(tokens, expr)?;
             if is_index {
                 expr = indexed;
@@ -122,11 +118,12 @@ where
             expr = called;
             ends = Ends::Call;
         }
+        Ok(Prefix { expr, ends })
     }
 
     /// A statement that begins with this.
     #[tactic(auto, using(crate::proofs::PrefixTurns::begun_rules))]
-    pub fn begun(&self, tokens: &mut Tokens<'_>, first: Prefix) -> Result<Measured<Stat>, Stop>
+    pub fn begun(&self, tokens: &mut Tokens, first: Prefix) -> Result<Measured<Stat>, Stop>
         requires { Nests self.now.depth (E.pre self.now.parts) (E.post self.now.parts) (B.pre self.now.blocks) (B.post self.now.blocks) }
         ensures { Reads (over self.now.depth spec.begun first tokens.old) result tokens.new }
     {
@@ -146,7 +143,7 @@ where
 
     /// A statement after the parenthesis at this place.
     #[tactic(auto, unfolding(lua_grammar::specs::Statements::after_open))]
-    pub fn after_open(&self, tokens: &mut Tokens<'_>, place: Place) -> Result<Measured<Stat>, Stop>
+    pub fn after_open(&self, tokens: &mut Tokens, place: Place) -> Result<Measured<Stat>, Stop>
         requires { Nests self.now.depth (E.pre self.now.parts) (E.post self.now.parts) (B.pre self.now.blocks) (B.post self.now.blocks) }
         ensures { Reads (over self.now.depth spec.after_open place tokens.old) result tokens.new }
     {

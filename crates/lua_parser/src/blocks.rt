@@ -19,12 +19,12 @@ use std::alloc::Global;
 
 impl<E, B> Parts<E, B>
 where
-    E: Fn(Global, &mut Tokens<'_>, usize, Part) -> Result<Measured<Expr>, Stop> + Copy,
-    B: Fn(Global, &mut Tokens<'_>, usize) -> Result<Measured<Items<Stat>>, Stop> + Copy,
+    E: Fn(Global, &mut Tokens, usize, Part) -> Result<Measured<Expr>, Stop> + Copy,
+    B: Fn(Global, &mut Tokens, usize) -> Result<Measured<Items<Stat>>, Stop> + Copy,
 {
     /// A `do` statement after its word.
     #[tactic(auto, unfolding(lua_grammar::specs::Statements::after_do))]
-    pub fn after_do(&self, tokens: &mut Tokens<'_>) -> Result<Measured<Stat>, Stop>
+    pub fn after_do(&self, tokens: &mut Tokens) -> Result<Measured<Stat>, Stop>
         requires { Nests self.now.depth (E.pre self.now.parts) (E.post self.now.parts) (B.pre self.now.blocks) (B.post self.now.blocks) }
         ensures { Reads (over self.now.depth spec.after_do tokens.old) result tokens.new }
     {
@@ -36,7 +36,7 @@ where
 
     /// The values of a `return` statement.
     #[tactic(auto, using(crate::proofs::StatTurns::returned_rules))]
-    pub fn returned(&self, tokens: &mut Tokens<'_>) -> Result<Measured<Items<Expr>>, Stop>
+    pub fn returned(&self, tokens: &mut Tokens) -> Result<Measured<Items<Expr>>, Stop>
         requires { Nests self.now.depth (E.pre self.now.parts) (E.post self.now.parts) (B.pre self.now.blocks) (B.post self.now.blocks) }
         ensures { Reads (over self.now.depth spec.returned tokens.old) result tokens.new }
     {
@@ -48,7 +48,7 @@ where
 
     /// A `return` statement after its word.
     #[tactic(auto, using(crate::proofs::StatTurns::return_rules))]
-    pub fn after_return(&self, tokens: &mut Tokens<'_>) -> Result<Measured<Stat>, Stop>
+    pub fn after_return(&self, tokens: &mut Tokens) -> Result<Measured<Stat>, Stop>
         requires { Nests self.now.depth (E.pre self.now.parts) (E.post self.now.parts) (B.pre self.now.blocks) (B.post self.now.blocks) }
         ensures { Reads (over self.now.depth spec.after_return tokens.old) result tokens.new }
     {
@@ -59,7 +59,7 @@ where
 
     /// A statement without a block or a `local`, if one begins here.
     #[tactic(auto, using(crate::proofs::OneStats::simple_rules))]
-    fn simple_stat(&self, tokens: &mut Tokens<'_>) -> Result<Option<Measured<Stat>>, Stop>
+    fn simple_stat(&self, tokens: &mut Tokens) -> Result<Option<Measured<Stat>>, Stop>
         requires { Nests self.now.depth (E.pre self.now.parts) (E.post self.now.parts) (B.pre self.now.blocks) (B.post self.now.blocks) }
         ensures { Reads (simple_stat self.now.depth tokens.old) result tokens.new }
     {
@@ -84,7 +84,7 @@ where
 
     /// Another statement, if one begins here.
     #[tactic(auto, using(crate::proofs::OneStats::nested_rules))]
-    fn nested_stat(&self, tokens: &mut Tokens<'_>) -> Result<Option<Measured<Stat>>, Stop>
+    fn nested_stat(&self, tokens: &mut Tokens) -> Result<Option<Measured<Stat>>, Stop>
         requires { Nests self.now.depth (E.pre self.now.parts) (E.post self.now.parts) (B.pre self.now.blocks) (B.post self.now.blocks) }
         ensures { Reads (nested_stat self.now.depth tokens.old) result tokens.new }
     {
@@ -112,7 +112,7 @@ where
 
     /// A statement that is more than a semicolon and no `return`, if one begins here.
     #[tactic(auto, using(crate::proofs::StatTurns::one_rules))]
-    fn one_stat(&self, tokens: &mut Tokens<'_>) -> Result<Option<Measured<Stat>>, Stop>
+    fn one_stat(&self, tokens: &mut Tokens) -> Result<Option<Measured<Stat>>, Stop>
         requires { Nests self.now.depth (E.pre self.now.parts) (E.post self.now.parts) (B.pre self.now.blocks) (B.post self.now.blocks) }
         ensures { Reads (one_stat self.now.depth tokens.old) result tokens.new }
     {
@@ -126,7 +126,7 @@ where
     #[tactic(auto, using(crate::proofs::StatTurns::stats_rules))]
     pub fn more_stats(
         &self,
-        tokens: &mut Tokens<'_>,
+        tokens: &mut Tokens,
         found: Measured<Items<Stat>>,
     ) -> Result<Measured<Items<Stat>>, Stop>
         requires { Nests self.now.depth (E.pre self.now.parts) (E.post self.now.parts) (B.pre self.now.blocks) (B.post self.now.blocks) }
@@ -138,19 +138,19 @@ where
                 continue;
             }
             if let Some(_) = tokens.word(Word::Return) {
-                push(&mut stats, self.after_return(tokens)?)?;
+                push(self.alloc, &mut stats, self.after_return(tokens)?)?;
                 return Ok(stats);
             }
             let Some(stat) = self.one_stat(tokens)? else {
                 return Ok(stats);
             };
-            push(&mut stats, stat)?;
+            push(self.alloc, &mut stats, stat)?;
         }
     }
 
     /// The statements of a block.
     #[tactic(auto, using(crate::proofs::BlockDepths::stats_low), unfolding(lua_grammar::specs::Statements::block))]
-    pub fn block(&self, tokens: &mut Tokens<'_>) -> Result<Measured<Items<Stat>>, Stop>
+    pub fn block(&self, tokens: &mut Tokens) -> Result<Measured<Items<Stat>>, Stop>
         requires { Nests self.now.depth (E.pre self.now.parts) (E.post self.now.parts) (B.pre self.now.blocks) (B.post self.now.blocks) }
         ensures { Reads (over self.now.depth spec.block tokens.old) result tokens.new }
     {

@@ -19,14 +19,14 @@ use std::alloc::Global;
 
 impl<E, B> Parts<E, B>
 where
-    E: Fn(Global, &mut Tokens<'_>, usize, Part) -> Result<Measured<Expr>, Stop> + Copy,
-    B: Fn(Global, &mut Tokens<'_>, usize) -> Result<Measured<Items<Stat>>, Stop> + Copy,
+    E: Fn(Global, &mut Tokens, usize, Part) -> Result<Measured<Expr>, Stop> + Copy,
+    B: Fn(Global, &mut Tokens, usize) -> Result<Measured<Items<Stat>>, Stop> + Copy,
 {
     /// The parenthesis that closes parameters after `...`.
     #[tactic(auto, unfolding(crate::specs::Steps::dots_end))]
     fn dots_end(
         &self,
-        tokens: &mut Tokens<'_>,
+        tokens: &mut Tokens,
         found: Row<(Bytes, Place)>,
     ) -> Result<(Row<(Bytes, Place)>, bool), Stop>
         ensures { Reads (dots_end self.now.depth found tokens.old) result tokens.new }
@@ -39,7 +39,7 @@ where
     #[tactic(auto, using(crate::proofs::ParamTurns::more_rules))]
     fn more_params(
         &self,
-        tokens: &mut Tokens<'_>,
+        tokens: &mut Tokens,
         first: Row<(Bytes, Place)>,
     ) -> Result<(Row<(Bytes, Place)>, bool), Stop>
         ensures { Reads (more_params self.now.depth first tokens.old) result tokens.new }
@@ -66,7 +66,7 @@ where
     #[tactic(auto, using(crate::proofs::ParamTurns::first_rules))]
     pub fn parameters(
         &self,
-        tokens: &mut Tokens<'_>,
+        tokens: &mut Tokens,
         first: Row<(Bytes, Place)>,
     ) -> Result<(Row<(Bytes, Place)>, bool), Stop>
         ensures { Reads (spec.parameters (parts self.now.depth) first tokens.old) result tokens.new }
@@ -86,10 +86,11 @@ where
     }
 
     /// What follows the word `function` at this place, and a name. These parameters come before its own.
+    #[inline(never)]
     #[tactic(auto, using(crate::proofs::Low::block_low), unfolding(lua_grammar::specs::Expressions::function_body))]
     pub fn function_body(
         &self,
-        tokens: &mut Tokens<'_>,
+        tokens: &mut Tokens,
         at: Place,
         first: Row<(Bytes, Place)>,
     ) -> Result<Measured<Body>, Stop>

@@ -17,12 +17,12 @@ use std::alloc::Global;
 
 impl<E, B> Parts<E, B>
 where
-    E: Fn(Global, &mut Tokens<'_>, usize, Part) -> Result<Measured<Expr>, Stop> + Copy,
-    B: Fn(Global, &mut Tokens<'_>, usize) -> Result<Measured<Items<Stat>>, Stop> + Copy,
+    E: Fn(Global, &mut Tokens, usize, Part) -> Result<Measured<Expr>, Stop> + Copy,
+    B: Fn(Global, &mut Tokens, usize) -> Result<Measured<Items<Stat>>, Stop> + Copy,
 {
     /// A condition and its block.
     #[tactic(auto, unfolding(lua_grammar::specs::Statements::condition))]
-    pub fn condition(&self, tokens: &mut Tokens<'_>) -> Result<Measured<Branch>, Stop>
+    pub fn condition(&self, tokens: &mut Tokens) -> Result<Measured<Branch>, Stop>
         requires { Nests self.now.depth (E.pre self.now.parts) (E.post self.now.parts) (B.pre self.now.blocks) (B.post self.now.blocks) }
         ensures { Reads (over self.now.depth spec.condition tokens.old) result tokens.new }
     {
@@ -43,7 +43,7 @@ where
     #[tactic(auto, unfolding(lua_grammar::specs::Statements::after_else))]
     pub fn after_else(
         &self,
-        tokens: &mut Tokens<'_>,
+        tokens: &mut Tokens,
         found: Measured<Items<Branch>>,
     ) -> Result<Measured<Stat>, Stop>
         requires { Nests self.now.depth (E.pre self.now.parts) (E.post self.now.parts) (B.pre self.now.blocks) (B.post self.now.blocks) }
@@ -60,7 +60,7 @@ where
     #[tactic(auto, using(crate::proofs::ArmTurns::arm_rules))]
     pub fn more_arms(
         &self,
-        tokens: &mut Tokens<'_>,
+        tokens: &mut Tokens,
         found: Measured<Items<Branch>>,
     ) -> Result<Measured<Stat>, Stop>
         requires { Nests self.now.depth (E.pre self.now.parts) (E.post self.now.parts) (B.pre self.now.blocks) (B.post self.now.blocks) }
@@ -68,7 +68,7 @@ where
     {
         let mut arms = found;
         while let Some(_) = tokens.word(Word::Elseif) {
-            push(&mut arms, self.condition(tokens)?)?;
+            push(self.alloc, &mut arms, self.condition(tokens)?)?;
         }
         if let Some(_) = tokens.word(Word::Else) {
             return self.after_else(tokens, arms);
@@ -79,7 +79,7 @@ where
 
     /// An `if` statement after its word.
     #[tactic(auto, unfolding(lua_grammar::specs::Statements::after_if))]
-    pub fn after_if(&self, tokens: &mut Tokens<'_>) -> Result<Measured<Stat>, Stop>
+    pub fn after_if(&self, tokens: &mut Tokens) -> Result<Measured<Stat>, Stop>
         requires { Nests self.now.depth (E.pre self.now.parts) (E.post self.now.parts) (B.pre self.now.blocks) (B.post self.now.blocks) }
         ensures { Reads (over self.now.depth spec.after_if tokens.old) result tokens.new }
     {

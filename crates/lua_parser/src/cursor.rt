@@ -1,58 +1,66 @@
 //! A cursor over tokens.
 
-ghost use Rattle.std.specs.Prelude.{◌≡◌, ◌↔◌, IsTrue, IfOk, true, [], ◌≤◌, ◌∷◌, length, drop};
+ghost use Rattle.std.specs.Option.{is_some};
+ghost use Rattle.std.specs.Prelude.{◌≡◌, ◌↔◌, IsTrue, true, [], ◌≤◌, ◌∷◌, length, drop};
 ghost use Rattle.lua_tokens.specs.declared.token.Lexeme.TheVariants as l;
 ghost use Rattle.lua_grammar.specs.Next.{an_atom, a_unary};
 ghost use Rattle.lua_grammar.specs.Input.{expect, attribute_name};
-ghost use Rattle.lua_parser.specs.Looks.{joined, rest, place_of, name_at, text_at, kind_at, kind_in, op_at, unary_at, begins_at, ends_at, after, Takes, Needs};
+ghost use Rattle.lua_parser.specs.Looks.{begun, what_of, rest, place_of, name_at, text_at, kind_at, kind_in, op_at, unary_at, begins_at, ends_at, suffix_at, after, Takes, Needs};
 ghost use Rattle.lua_parser.specs.Operators.{found_op};
 ghost use Rattle.lua_parser.specs.Reads.{Reads};
 
 use crate::operator::{Operator, binary_operator};
 use crate::stop::Stop;
 use lanes_arena::Bytes;
-use lua_tokens::{Lexeme, Place, Sign, Token, Word};
+use lua_tokens::{Lexeme, Place, Sign, Token, TokenList, Word};
 use lua_tree::{ExprKind, Unary};
-use std::alloc::AllocError;
 use std::marker::Model;
 
-/// The tokens that are left.
+/// The tokens that are left. A block of them is let go as soon as they are taken.
 #[derive(Drop)]
-pub struct Tokens<'a> {
-    left: &'a [Token],
+pub struct Tokens {
+    block: Vec<Token>,
+    at: usize,
+    others: TokenList,
 }
 
-impl<'a> Model for Tokens<'a> {
-    ghost use Rattle.std.specs.Prelude.{List};
+impl Model for Tokens {
+    ghost use Rattle.std.specs.Prelude.{◌≡◌, ◌≤◌, List, [], ◌++◌, length, drop};
     ghost use Rattle.lua_tokens.specs.declared.token.Token.{Token};
 
     ghost Value = { List Token };
 
-    ghost view = { λ t. t.left.now };
+    ghost view = { λ t. drop t.at t.block.items ++ t.others };
+
+    ghost invariant = { λ t. length t.block.items ≤ t.at → t.others ≡ [] };
 }
 
-/// The next token and the others.
-fn next<'a>(tokens: &'a [Token]) -> Option<(&'a Token, &'a [Token])>
-    ensures { tokens.now ≡ joined result }
+/// Whether this is an atom.
+#[inline]
+fn is_atom(what: &Lexeme) -> bool
+    ensures { result ≡ is_some (an_atom what.now) }
 {
-    match tokens {
-        [] => None,
-        [first, others @ ..] => Some((first, others)),
-    }
+    matches!(
+        what,
+        Lexeme::Int(_)
+            | Lexeme::Text(_)
+            | Lexeme::Word(Word::Nil | Word::True | Word::False)
+            | Lexeme::Sign(Sign::DotDotDot)
+    )
 }
 
 /// The node of an atom at this place.
-fn atom_kind(what: &Lexeme, place: Place) -> Result<Option<ExprKind>, AllocError>
-    ensures { IfOk result (λ kind. kind ≡ kind_in (an_atom what.now) place) }
+fn atom_kind(what: Lexeme, place: Place) -> Option<ExprKind>
+    ensures { result ≡ kind_in (an_atom what) place }
 {
     match what {
-        Lexeme::Int(n) => Ok(Some(ExprKind::Int(*n))),
-        Lexeme::Text(text) => Ok(Some(ExprKind::Text(text.copy()?))),
-        Lexeme::Word(Word::Nil) => Ok(Some(ExprKind::Nil)),
-        Lexeme::Word(Word::True) => Ok(Some(ExprKind::True)),
-        Lexeme::Word(Word::False) => Ok(Some(ExprKind::False)),
-        Lexeme::Sign(Sign::DotDotDot) => Ok(Some(ExprKind::Dots(place))),
-        _ => Ok(None),
+        Lexeme::Int(n) => Some(ExprKind::Int(n)),
+        Lexeme::Text(text) => Some(ExprKind::Text(text)),
+        Lexeme::Word(Word::Nil) => Some(ExprKind::Nil),
+        Lexeme::Word(Word::True) => Some(ExprKind::True),
+        Lexeme::Word(Word::False) => Some(ExprKind::False),
+        Lexeme::Sign(Sign::DotDotDot) => Some(ExprKind::Dots(place)),
+        _ => None,
     }
 }
 
@@ -69,29 +77,68 @@ fn unary(what: &Lexeme) -> Option<Unary>
     }
 }
 
-impl<'a> Tokens<'a> {
-    pub fn new(all: &'a [Token]) -> Tokens<'a>
-        ensures { result ≡ all.now }
+impl Tokens {
+    #[tactic(auto, using(crate::proofs::TokenBlocks::begin_rules))]
+    pub fn new(all: TokenList) -> Tokens
+        ensures { result ≡ all }
     {
-        Tokens { left: all }
-    }
-
-    /// Goes past the next token, if there is one.
-    #[tactic(auto, using(crate::proofs::Standing::rest_drop), unfolding(crate::specs::Looks::rest))]
-    pub fn take(&mut self)
-        ensures { self.new ≡ rest self.old }
-    {
-        if let Some((_, others)) = next(self.left) {
-            self.left = others;
+        let mut others = all;
+        let block = others.take_block();
+        Tokens {
+            block,
+            at: 0,
+            others,
         }
     }
 
+    /// The next token, if there is one.
+    #[inline]
+    #[tactic(auto, using(crate::proofs::TokenBlocks::peek_rules))]
+    fn peek(&self) -> Option<&Token>
+        ensures { self.now ≡ begun result (rest self.now) }
+    {
+        if self.at < self.block.len() {
+            return Some(&self.block[self.at]);
+        }
+        None
+    }
+
+    /// Goes past the next token, if there is one.
+    #[inline]
+    #[tactic(auto, using(crate::proofs::TokenBlocks::take_rules))]
+    pub fn take(&mut self)
+        ensures { self.new ≡ rest self.old }
+    {
+        if self.at < self.block.len() {
+            self.at += 1;
+            if self.at == self.block.len() {
+                self.block = self.others.take_block();
+                self.at = 0;
+            }
+        }
+    }
+
+    /// Goes past the next token and answers what it was: the end of a script if no token is left.
+    #[tactic(auto, using(crate::proofs::TokenBlocks::what_rules))]
+    fn take_what(&mut self) -> Lexeme
+        ensures what { result ≡ what_of self.old }
+        ensures left { self.new ≡ rest self.old }
+    {
+        if self.at >= self.block.len() {
+            return Lexeme::End;
+        }
+        let what = std::mem::replace(&mut self.block[self.at].what, Lexeme::End);
+        self.take();
+        what
+    }
+
     /// The place of the next token, if it is this sign.
+    #[inline]
     #[tactic(auto, using(crate::proofs::Standing::sign_rules))]
     fn sign_here(&self, sign: Sign) -> Option<Place>
         ensures { result ≡ place_of (l.Sign sign) self.now }
     {
-        let (first, _) = next(self.left)?;
+        let first = self.peek()?;
         match first.what {
             Lexeme::Sign(next) => {
                 if next == sign {
@@ -105,11 +152,12 @@ impl<'a> Tokens<'a> {
     }
 
     /// The place of the next token, if it is this word.
+    #[inline]
     #[tactic(auto, using(crate::proofs::Standing::word_rules))]
     fn word_here(&self, word: Word) -> Option<Place>
         ensures { result ≡ place_of (l.Word word) self.now }
     {
-        let (first, _) = next(self.left)?;
+        let first = self.peek()?;
         match first.what {
             Lexeme::Word(next) => {
                 if next == word {
@@ -197,19 +245,20 @@ impl<'a> Tokens<'a> {
     pub fn name_if(&mut self, room: bool) -> Result<Option<(Bytes, Place)>, Stop>
         ensures { Takes (name_at self.old) room result self.old self.new }
     {
-        let Some((first, others)) = next(self.left) else {
+        let Some(first) = self.peek() else {
             return Ok(None);
         };
-        let Lexeme::Name(name) = &first.what else {
+        let Lexeme::Name(_) = &first.what else {
             return Ok(None);
         };
         if !room {
             return Err(Stop::Deep);
         }
         let place = first.place;
-        let copy = name.copy()?;
-        self.left = others;
-        Ok(Some((copy, place)))
+        match self.take_what() {
+            Lexeme::Name(name) => Ok(Some((name, place))),
+            _ => Ok(None),
+        }
     }
 
     /// Takes a text, if one comes next and there is room for it.
@@ -217,19 +266,20 @@ impl<'a> Tokens<'a> {
     pub fn text_if(&mut self, room: bool) -> Result<Option<(Bytes, Place)>, Stop>
         ensures { Takes (text_at self.old) room result self.old self.new }
     {
-        let Some((first, others)) = next(self.left) else {
+        let Some(first) = self.peek() else {
             return Ok(None);
         };
-        let Lexeme::Text(text) = &first.what else {
+        let Lexeme::Text(_) = &first.what else {
             return Ok(None);
         };
         if !room {
             return Err(Stop::Deep);
         }
         let place = first.place;
-        let copy = text.copy()?;
-        self.left = others;
-        Ok(Some((copy, place)))
+        match self.take_what() {
+            Lexeme::Text(text) => Ok(Some((text, place))),
+            _ => Ok(None),
+        }
     }
 
     /// Takes a name, which has to come next.
@@ -247,7 +297,7 @@ impl<'a> Tokens<'a> {
     pub fn attribute(&mut self) -> Result<Place, Stop>
         ensures { Reads (attribute_name self.old) result self.new }
     {
-        let Some((first, others)) = next(self.left) else {
+        let Some(first) = self.peek() else {
             return Err(Stop::Bad);
         };
         let Lexeme::Name(name) = &first.what else {
@@ -255,18 +305,19 @@ impl<'a> Tokens<'a> {
         };
         if name.as_slice() == b"const".as_slice() {
             let place = first.place;
-            self.left = others;
+            self.take();
             return Ok(place);
         }
         Err(Stop::Attribute)
     }
 
     /// Whether a token comes next that may follow `return` where it gives no values.
+    #[inline]
     #[tactic(auto, using(crate::proofs::Standing::ends_rules))]
     pub fn ends_return(&self) -> bool
         ensures { result ≡ ends_at self.now }
     {
-        let Some((first, _)) = next(self.left) else {
+        let Some(first) = self.peek() else {
             return false;
         };
         match first.what {
@@ -282,11 +333,11 @@ impl<'a> Tokens<'a> {
         ensures found { result ≡ place_of l.End self.old }
         ensures left { self.new ≡ after result self.old }
     {
-        let (first, others) = next(self.left)?;
+        let first = self.peek()?;
         match first.what {
             Lexeme::End => {
                 let place = first.place;
-                self.left = others;
+                self.take();
                 Some(place)
             }
             _ => None,
@@ -294,10 +345,11 @@ impl<'a> Tokens<'a> {
     }
 
     /// Whether no token is left.
+    #[inline]
     pub fn is_empty(&self) -> bool
         ensures { IsTrue result ↔ (self.now ≡ []) }
     {
-        self.left.is_empty()
+        self.peek().is_none()
     }
 
     /// The node of an atom, which is taken if it comes next.
@@ -305,15 +357,17 @@ impl<'a> Tokens<'a> {
     pub fn atom(&mut self) -> Result<Option<(ExprKind, Place)>, Stop>
         ensures { Takes (kind_at self.old) true result self.old self.new }
     {
-        let Some((first, others)) = next(self.left) else {
+        let Some(first) = self.peek() else {
             return Ok(None);
         };
+        if !is_atom(&first.what) {
+            return Ok(None);
+        }
         let place = first.place;
-        let Some(kind) = atom_kind(&first.what, place)? else {
-            return Ok(None);
-        };
-        self.left = others;
-        Ok(Some((kind, place)))
+        match atom_kind(self.take_what(), place) {
+            Some(kind) => Ok(Some((kind, place))),
+            None => Ok(None),
+        }
     }
 
     /// Takes a binary operator from this level on, if one comes next and there is room for it.
@@ -321,7 +375,7 @@ impl<'a> Tokens<'a> {
     pub fn operator_if(&mut self, least: u8, room: bool) -> Result<Option<(Operator, Place)>, Stop>
         ensures { Takes (op_at least self.old) room (found_op result) self.old self.new }
     {
-        let Some((first, others)) = next(self.left) else {
+        let Some(first) = self.peek() else {
             return Ok(None);
         };
         let Some(operator) = binary_operator(&first.what) else {
@@ -333,8 +387,24 @@ impl<'a> Tokens<'a> {
         if !room {
             return Err(Stop::Deep);
         }
-        self.left = others;
-        Ok(Some((operator, first.place)))
+        let place = first.place;
+        self.take();
+        Ok(Some((operator, place)))
+    }
+
+    /// Whether a binary operator from this level on comes next.
+    #[inline]
+    #[tactic(auto, using(crate::proofs::Standing::seen_rules))]
+    pub fn has_operator(&self, least: u8) -> bool
+        ensures { result ≡ is_some (op_at least self.now) }
+    {
+        let Some(first) = self.peek() else {
+            return false;
+        };
+        let Some(operator) = binary_operator(&first.what) else {
+            return false;
+        };
+        least <= operator.level()
     }
 
     /// Takes a unary operator, if one comes next and there is room for it.
@@ -342,7 +412,7 @@ impl<'a> Tokens<'a> {
     pub fn unary_if(&mut self, room: bool) -> Result<Option<(Unary, Place)>, Stop>
         ensures { Takes (unary_at self.old) room result self.old self.new }
     {
-        let Some((first, others)) = next(self.left) else {
+        let Some(first) = self.peek() else {
             return Ok(None);
         };
         let Some(operator) = unary(&first.what) else {
@@ -351,16 +421,18 @@ impl<'a> Tokens<'a> {
         if !room {
             return Err(Stop::Deep);
         }
-        self.left = others;
-        Ok(Some((operator, first.place)))
+        let place = first.place;
+        self.take();
+        Ok(Some((operator, place)))
     }
 
     /// Whether an expression may begin with the next token.
+    #[inline]
     #[tactic(auto, using(crate::proofs::Standing::begins_rules))]
     pub fn begins_expr(&self) -> bool
         ensures { result ≡ begins_at self.now }
     {
-        let Some((first, _)) = next(self.left) else {
+        let Some(first) = self.peek() else {
             return false;
         };
         match first.what {
@@ -378,11 +450,29 @@ impl<'a> Tokens<'a> {
         }
     }
 
+    /// Whether an index or a call begins with the next token.
+    #[inline]
+    #[tactic(auto, using(crate::proofs::Standing::suffix_rules))]
+    pub fn has_suffix(&self) -> bool
+        ensures { result ≡ suffix_at self.now }
+    {
+        let Some(first) = self.peek() else {
+            return false;
+        };
+        match first.what {
+            Lexeme::Text(_) => true,
+            Lexeme::Sign(
+                Sign::OpenParen | Sign::OpenBrace | Sign::OpenBracket | Sign::Colon | Sign::Dot,
+            ) => true,
+            _ => false,
+        }
+    }
+
     /// The next token.
     pub fn first(&self) -> &Token
         requires { 1 ≤ length self.now }
         ensures { self.now ≡ result.now ∷ drop 1 self.now }
     {
-        &self.left[0]
+        &self.block[self.at]
     }
 }

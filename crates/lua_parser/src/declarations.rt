@@ -20,12 +20,12 @@ use std::alloc::Global;
 
 impl<E, B> Parts<E, B>
 where
-    E: Fn(Global, &mut Tokens<'_>, usize, Part) -> Result<Measured<Expr>, Stop> + Copy,
-    B: Fn(Global, &mut Tokens<'_>, usize) -> Result<Measured<Items<Stat>>, Stop> + Copy,
+    E: Fn(Global, &mut Tokens, usize, Part) -> Result<Measured<Expr>, Stop> + Copy,
+    B: Fn(Global, &mut Tokens, usize) -> Result<Measured<Items<Stat>>, Stop> + Copy,
 {
     /// Whether a declared name has an attribute, which is `const`.
     #[tactic(auto, using(crate::proofs::LocalSteps::attrib_rules))]
-    pub fn attrib(&self, tokens: &mut Tokens<'_>) -> Result<bool, Stop>
+    pub fn attrib(&self, tokens: &mut Tokens) -> Result<bool, Stop>
         requires { Nests self.now.depth (E.pre self.now.parts) (E.post self.now.parts) (B.pre self.now.blocks) (B.post self.now.blocks) }
         ensures { Reads (over self.now.depth spec.attrib tokens.old) result tokens.new }
     {
@@ -41,7 +41,7 @@ where
     #[tactic(auto, using(crate::proofs::DeclaredTurns::declared_rules))]
     pub fn more_declared(
         &self,
-        tokens: &mut Tokens<'_>,
+        tokens: &mut Tokens,
         found: Row<(Bytes, bool, Place)>,
     ) -> Result<Row<(Bytes, bool, Place)>, Stop>
         requires { Nests self.now.depth (E.pre self.now.parts) (E.post self.now.parts) (B.pre self.now.blocks) (B.post self.now.blocks) }
@@ -58,7 +58,7 @@ where
 
     /// The values of a declaration.
     #[tactic(auto, using(crate::proofs::LocalSteps::values_rules))]
-    pub fn values(&self, tokens: &mut Tokens<'_>) -> Result<Measured<Items<Expr>>, Stop>
+    pub fn values(&self, tokens: &mut Tokens) -> Result<Measured<Items<Expr>>, Stop>
         requires { Nests self.now.depth (E.pre self.now.parts) (E.post self.now.parts) (B.pre self.now.blocks) (B.post self.now.blocks) }
         ensures { Reads (over self.now.depth spec.values tokens.old) result tokens.new }
     {
@@ -72,7 +72,7 @@ where
     #[tactic(auto, unfolding(lua_grammar::specs::Statements::local_names))]
     pub fn local_names(
         &self,
-        tokens: &mut Tokens<'_>,
+        tokens: &mut Tokens,
         name: Bytes,
         place: Place,
     ) -> Result<Measured<Stat>, Stop>
@@ -88,7 +88,7 @@ where
 
     /// A `local function` statement whose word `function` is at this place, after that word.
     #[tactic(auto, using(crate::proofs::LocalSteps::local_function_rules))]
-    pub fn local_function(&self, tokens: &mut Tokens<'_>, at: Place) -> Result<Measured<Stat>, Stop>
+    pub fn local_function(&self, tokens: &mut Tokens, at: Place) -> Result<Measured<Stat>, Stop>
         requires { Nests self.now.depth (E.pre self.now.parts) (E.post self.now.parts) (B.pre self.now.blocks) (B.post self.now.blocks) }
         ensures { Reads (over self.now.depth spec.local_function at tokens.old) result tokens.new }
     {
@@ -99,7 +99,7 @@ where
 
     /// A statement after the word `local`.
     #[tactic(auto, using(crate::proofs::LocalSteps::local_rules))]
-    pub fn after_local(&self, tokens: &mut Tokens<'_>) -> Result<Measured<Stat>, Stop>
+    pub fn after_local(&self, tokens: &mut Tokens) -> Result<Measured<Stat>, Stop>
         requires { Nests self.now.depth (E.pre self.now.parts) (E.post self.now.parts) (B.pre self.now.blocks) (B.post self.now.blocks) }
         ensures { Reads (over self.now.depth spec.after_local tokens.old) result tokens.new }
     {
@@ -112,11 +112,7 @@ where
 
     /// The names that go on with the path of a function.
     #[tactic(auto, using(crate::proofs::PathTurns::path_rules))]
-    pub fn path(
-        &self,
-        tokens: &mut Tokens<'_>,
-        first: Measured<Expr>,
-    ) -> Result<Measured<Expr>, Stop>
+    pub fn path(&self, tokens: &mut Tokens, first: Measured<Expr>) -> Result<Measured<Expr>, Stop>
         requires { Nests self.now.depth (E.pre self.now.parts) (E.post self.now.parts) (B.pre self.now.blocks) (B.post self.now.blocks) }
         ensures { Reads (over self.now.depth spec.path first tokens.old) result tokens.new }
     {
@@ -133,7 +129,7 @@ where
     #[tactic(auto, unfolding(lua_grammar::specs::Statements::defined))]
     pub fn defined(
         &self,
-        tokens: &mut Tokens<'_>,
+        tokens: &mut Tokens,
         at: Place,
         target: Measured<Expr>,
         first: Row<(Bytes, Place)>,
@@ -153,7 +149,7 @@ where
     #[tactic(auto, using(crate::proofs::FunctionSteps::method_rules))]
     pub fn after_path(
         &self,
-        tokens: &mut Tokens<'_>,
+        tokens: &mut Tokens,
         at: Place,
         target: Measured<Expr>,
     ) -> Result<Measured<Stat>, Stop>
@@ -172,7 +168,7 @@ where
 
     /// A `function` statement whose word is at this place, after that word.
     #[tactic(auto, using(crate::proofs::FunctionSteps::function_rules))]
-    pub fn after_function(&self, tokens: &mut Tokens<'_>, at: Place) -> Result<Measured<Stat>, Stop>
+    pub fn after_function(&self, tokens: &mut Tokens, at: Place) -> Result<Measured<Stat>, Stop>
         requires { Nests self.now.depth (E.pre self.now.parts) (E.post self.now.parts) (B.pre self.now.blocks) (B.post self.now.blocks) }
         ensures { Reads (over self.now.depth spec.after_function at tokens.old) result tokens.new }
     {

@@ -17,12 +17,13 @@ use std::alloc::Global;
 
 impl<E, B> Parts<E, B>
 where
-    E: Fn(Global, &mut Tokens<'_>, usize, Part) -> Result<Measured<Expr>, Stop> + Copy,
-    B: Fn(Global, &mut Tokens<'_>, usize) -> Result<Measured<Items<Stat>>, Stop> + Copy,
+    E: Fn(Global, &mut Tokens, usize, Part) -> Result<Measured<Expr>, Stop> + Copy,
+    B: Fn(Global, &mut Tokens, usize) -> Result<Measured<Items<Stat>>, Stop> + Copy,
 {
     /// An expression in parentheses after the parenthesis at this place.
+    #[inline(never)]
     #[tactic(auto, using(crate::proofs::Low::first_low), unfolding(lua_grammar::specs::Expressions::group))]
-    pub fn group(&self, tokens: &mut Tokens<'_>, place: Place) -> Result<Measured<Expr>, Stop>
+    pub fn group(&self, tokens: &mut Tokens, place: Place) -> Result<Measured<Expr>, Stop>
         requires { Nests self.now.depth (E.pre self.now.parts) (E.post self.now.parts) (B.pre self.now.blocks) (B.post self.now.blocks) }
         ensures { Reads (spec.group (parts self.now.depth) place tokens.old) result tokens.new }
     {

@@ -40,12 +40,12 @@ fn numbers_stat(
 
 impl<E, B> Parts<E, B>
 where
-    E: Fn(Global, &mut Tokens<'_>, usize, Part) -> Result<Measured<Expr>, Stop> + Copy,
-    B: Fn(Global, &mut Tokens<'_>, usize) -> Result<Measured<Items<Stat>>, Stop> + Copy,
+    E: Fn(Global, &mut Tokens, usize, Part) -> Result<Measured<Expr>, Stop> + Copy,
+    B: Fn(Global, &mut Tokens, usize) -> Result<Measured<Items<Stat>>, Stop> + Copy,
 {
     /// A `while` statement after its word.
     #[tactic(auto, unfolding(lua_grammar::specs::Statements::after_while))]
-    pub fn after_while(&self, tokens: &mut Tokens<'_>) -> Result<Measured<Stat>, Stop>
+    pub fn after_while(&self, tokens: &mut Tokens) -> Result<Measured<Stat>, Stop>
         requires { Nests self.now.depth (E.pre self.now.parts) (E.post self.now.parts) (B.pre self.now.blocks) (B.post self.now.blocks) }
         ensures { Reads (over self.now.depth spec.after_while tokens.old) result tokens.new }
     {
@@ -60,7 +60,7 @@ where
 
     /// A `repeat` statement after its word.
     #[tactic(auto, unfolding(lua_grammar::specs::Statements::after_repeat))]
-    pub fn after_repeat(&self, tokens: &mut Tokens<'_>) -> Result<Measured<Stat>, Stop>
+    pub fn after_repeat(&self, tokens: &mut Tokens) -> Result<Measured<Stat>, Stop>
         requires { Nests self.now.depth (E.pre self.now.parts) (E.post self.now.parts) (B.pre self.now.blocks) (B.post self.now.blocks) }
         ensures { Reads (over self.now.depth spec.after_repeat tokens.old) result tokens.new }
     {
@@ -74,7 +74,7 @@ where
 
     /// The block of a `for`, from `do` to `end`.
     #[tactic(auto, unfolding(crate::specs::ForBlocks::loop_block))]
-    fn loop_block(&self, tokens: &mut Tokens<'_>) -> Result<Measured<Items<Stat>>, Stop>
+    fn loop_block(&self, tokens: &mut Tokens) -> Result<Measured<Items<Stat>>, Stop>
         requires { Nests self.now.depth (E.pre self.now.parts) (E.post self.now.parts) (B.pre self.now.blocks) (B.post self.now.blocks) }
         ensures { Reads (loop_block (parts self.now.depth) tokens.old) result tokens.new }
     {
@@ -85,7 +85,7 @@ where
     }
 
     /// The start, the limit or the step of a numerical `for`.
-    fn bound(&self, tokens: &mut Tokens<'_>) -> Result<Measured<Boxed<Expr>>, Stop>
+    fn bound(&self, tokens: &mut Tokens) -> Result<Measured<Boxed<Expr>>, Stop>
         requires { Nests self.now.depth (E.pre self.now.parts) (E.post self.now.parts) (B.pre self.now.blocks) (B.post self.now.blocks) }
         ensures { Reads ((parts self.now.depth).expr 0 tokens.old) result tokens.new }
     {
@@ -95,7 +95,7 @@ where
 
     /// The step of a numerical `for`.
     #[tactic(auto, using(crate::proofs::ForSteps::step_rules))]
-    pub fn for_step(&self, tokens: &mut Tokens<'_>) -> Result<Measured<Option<Boxed<Expr>>>, Stop>
+    pub fn for_step(&self, tokens: &mut Tokens) -> Result<Measured<Option<Boxed<Expr>>>, Stop>
         requires { Nests self.now.depth (E.pre self.now.parts) (E.post self.now.parts) (B.pre self.now.blocks) (B.post self.now.blocks) }
         ensures { Reads (over self.now.depth spec.for_step tokens.old) result tokens.new }
     {
@@ -110,7 +110,7 @@ where
     #[tactic(auto, using(crate::proofs::ForBlockSteps::numbers_rules))]
     pub fn for_numbers(
         &self,
-        tokens: &mut Tokens<'_>,
+        tokens: &mut Tokens,
         name: Bytes,
         place: Place,
     ) -> Result<Measured<Stat>, Stop>
@@ -126,7 +126,7 @@ where
     #[tactic(auto, using(crate::proofs::ForBlockSteps::from_rules))]
     fn numbers_from(
         &self,
-        tokens: &mut Tokens<'_>,
+        tokens: &mut Tokens,
         name: Bytes,
         place: Place,
         start: Measured<Boxed<Expr>>,
@@ -143,7 +143,7 @@ where
     #[tactic(auto, using(crate::proofs::ForBlockSteps::numbers_block_rules))]
     fn numbers_block(
         &self,
-        tokens: &mut Tokens<'_>,
+        tokens: &mut Tokens,
         name: Bytes,
         place: Place,
         start: Measured<Boxed<Expr>>,
@@ -161,7 +161,7 @@ where
     #[tactic(auto, using(crate::proofs::NameTurns::name_rules))]
     pub fn for_names(
         &self,
-        tokens: &mut Tokens<'_>,
+        tokens: &mut Tokens,
         found: Row<(Bytes, Place)>,
     ) -> Result<Row<(Bytes, Place)>, Stop>
         requires { Nests self.now.depth (E.pre self.now.parts) (E.post self.now.parts) (B.pre self.now.blocks) (B.post self.now.blocks) }
@@ -180,7 +180,7 @@ where
     #[tactic(auto, using(crate::proofs::ForBlockSteps::each_rules))]
     pub fn for_each(
         &self,
-        tokens: &mut Tokens<'_>,
+        tokens: &mut Tokens,
         name: Bytes,
         place: Place,
     ) -> Result<Measured<Stat>, Stop>
@@ -197,7 +197,7 @@ where
     #[tactic(auto, unfolding(crate::specs::ForBlocks::each_block))]
     fn each_block(
         &self,
-        tokens: &mut Tokens<'_>,
+        tokens: &mut Tokens,
         names: Row<(Bytes, Place)>,
         values: Measured<Items<Expr>>,
     ) -> Result<Measured<Stat>, Stop>
@@ -214,7 +214,7 @@ where
 
     /// A `for` statement after its word.
     #[tactic(auto, using(crate::proofs::ForSteps::for_rules))]
-    pub fn after_for(&self, tokens: &mut Tokens<'_>) -> Result<Measured<Stat>, Stop>
+    pub fn after_for(&self, tokens: &mut Tokens) -> Result<Measured<Stat>, Stop>
         requires { Nests self.now.depth (E.pre self.now.parts) (E.post self.now.parts) (B.pre self.now.blocks) (B.post self.now.blocks) }
         ensures { Reads (over self.now.depth spec.after_for tokens.old) result tokens.new }
     {

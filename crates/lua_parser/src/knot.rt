@@ -15,7 +15,7 @@ use std::alloc::Global;
 
 /// Why no part of a depth of 0 comes next.
 #[tactic(auto, using(crate::proofs::Knots::flat_rules))]
-fn no_part(tokens: &Tokens<'_>, part: Part) -> Stop
+fn no_part(tokens: &Tokens, part: Part) -> Stop
     ensures { part_of 0 part tokens.now ≡ Err (why_of result, tokens.now) }
 {
     let Part::Level(_) = part else {
@@ -32,7 +32,7 @@ fn no_part(tokens: &Tokens<'_>, part: Part) -> Stop
 #[tactic(auto, using(crate::proofs::Knots::knot_rules))]
 pub fn nested_part(
     alloc: Global,
-    tokens: &mut Tokens<'_>,
+    tokens: &mut Tokens,
     depth: usize,
     part: Part,
 ) -> Result<Measured<Expr>, Stop>
@@ -60,7 +60,7 @@ pub fn nested_part(
 #[tactic(auto, using(crate::proofs::Knots::knot_rules))]
 pub fn nested_block(
     alloc: Global,
-    tokens: &mut Tokens<'_>,
+    tokens: &mut Tokens,
     depth: usize,
 ) -> Result<Measured<Items<Stat>>, Stop>
     requires { depth < 1000 }

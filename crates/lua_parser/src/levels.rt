@@ -17,14 +17,15 @@ use std::alloc::Global;
 
 impl<E, B> Parts<E, B>
 where
-    E: Fn(Global, &mut Tokens<'_>, usize, Part) -> Result<Measured<Expr>, Stop> + Copy,
-    B: Fn(Global, &mut Tokens<'_>, usize) -> Result<Measured<Items<Stat>>, Stop> + Copy,
+    E: Fn(Global, &mut Tokens, usize, Part) -> Result<Measured<Expr>, Stop> + Copy,
+    B: Fn(Global, &mut Tokens, usize) -> Result<Measured<Items<Stat>>, Stop> + Copy,
 {
     /// The operators from this level on that go on with an expression.
+    #[inline(never)]
     #[tactic(auto, using(crate::proofs::OpTurns::climb_rules, crate::proofs::Low::right_low))]
     pub fn climb(
         &self,
-        tokens: &mut Tokens<'_>,
+        tokens: &mut Tokens,
         least: u8,
         first: Measured<Expr>,
     ) -> Result<Measured<Expr>, Stop>
@@ -43,20 +44,24 @@ where
     }
 
     /// An expression of operators from this level on.
-    #[tactic(auto, unfolding(lua_grammar::specs::Expressions::from_level))]
-    pub fn from_level(&self, tokens: &mut Tokens<'_>, least: u8) -> Result<Measured<Expr>, Stop>
+    #[tactic(auto, using(crate::proofs::OpTurns::level_rules))]
+    pub fn from_level(&self, tokens: &mut Tokens, least: u8) -> Result<Measured<Expr>, Stop>
         requires { Nests self.now.depth (E.pre self.now.parts) (E.post self.now.parts) (B.pre self.now.blocks) (B.post self.now.blocks) }
         ensures { Reads (spec.from_level (parts self.now.depth) true least tokens.old) result tokens.new }
     {
         let first = self.operand(tokens)?;
+        if !tokens.has_operator(least) {
+            return Ok(first);
+        }
         self.climb(tokens, least, first)
     }
 
     /// What goes on with an expression.
+    #[inline(never)]
     #[tactic(auto, unfolding(lua_grammar::specs::Expressions::rest_of))]
     pub fn rest_of(
         &self,
-        tokens: &mut Tokens<'_>,
+        tokens: &mut Tokens,
         first: Measured<Expr>,
     ) -> Result<Measured<Expr>, Stop>
         requires { Nests self.now.depth (E.pre self.now.parts) (E.post self.now.parts) (B.pre self.now.blocks) (B.post self.now.blocks) }

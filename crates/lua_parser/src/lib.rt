@@ -36,7 +36,7 @@ ghost use Rattle.lua_parser.specs.Answers.{EndsWithEnd, Answers, Finds, OneAnswe
 use cursor::Tokens;
 pub use fault::ParseFault;
 use fault::fault_at;
-use lua_tokens::Token;
+use lua_tokens::TokenList;
 use lua_tree::Tree;
 use script::script;
 use std::alloc::Global;
@@ -45,10 +45,10 @@ use stop::Stop;
 /// The tree that a script's tokens spell (manual, section 9), the last of which is `End`. It is at most 60 deep: an expression
 /// is one deeper than the deepest of its parts, and a block than the deepest expression, block or function body in its
 /// statements. Else the fault comes of the first token with which those up to it begin no such script.
-pub fn parse(alloc: Global, tokens: &[Token]) -> Result<Tree, ParseFault>
-    requires { EndsWithEnd tokens.now }
-    ensures answers { Answers tokens.now result }
-    ensures only { (it : tree.Tree) → Spells it tokens.now → depth_of it ≤ 60 → Finds result it }
+pub fn parse(alloc: Global, tokens: TokenList) -> Result<Tree, ParseFault>
+    requires { EndsWithEnd tokens }
+    ensures answers { Answers tokens result }
+    ensures only { (it : tree.Tree) → Spells it tokens → depth_of it ≤ 60 → Finds result it }
 {
     let mut left = Tokens::new(tokens);
     match script(alloc, &mut left) {

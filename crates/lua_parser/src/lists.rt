@@ -22,12 +22,22 @@ pub fn nothing<T>(alloc: Global) -> Measured<Items<T>>
     Measured::new(Items::new(alloc), 0)
 }
 
-/// Puts this at the end of a list.
-pub fn push<T: Drop>(list: &mut Measured<Items<T>>, one: Measured<T>) -> Result<(), AllocError>
+/// Puts this at the end of a list. The first gets room for itself alone, since most lists have one.
+pub fn push<T: Drop>(
+    alloc: Global,
+    list: &mut Measured<Items<T>>,
+    one: Measured<T>,
+) -> Result<(), AllocError>
     ensures { OnOk result (list.new ≡ spec.with_one list.old one) }
 {
     let Measured { what, depth } = one;
-    list.what.push(what)?;
+    if list.what.is_empty() {
+        let mut items = Vec::with_capacity(alloc, 1)?;
+        items.push_reserved(what);
+        list.what = Items::from_vec(items);
+    } else {
+        list.what.push(what)?;
+    }
     list.depth = list.depth.max(depth);
     Ok(())
 }
@@ -44,14 +54,14 @@ pub fn only<T: Drop>(alloc: Global, one: Measured<T>) -> Result<Measured<Items<T
 
 impl<E, B> Parts<E, B>
 where
-    E: Fn(Global, &mut Tokens<'_>, usize, Part) -> Result<Measured<Expr>, Stop> + Copy,
-    B: Fn(Global, &mut Tokens<'_>, usize) -> Result<Measured<Items<Stat>>, Stop> + Copy,
+    E: Fn(Global, &mut Tokens, usize, Part) -> Result<Measured<Expr>, Stop> + Copy,
+    B: Fn(Global, &mut Tokens, usize) -> Result<Measured<Items<Stat>>, Stop> + Copy,
 {
     /// The expressions that go on with a list.
     #[tactic(auto, using(crate::proofs::ListTurns::list_rules))]
     pub fn more_exprs(
         &self,
-        tokens: &mut Tokens<'_>,
+        tokens: &mut Tokens,
         first: Measured<Items<Expr>>,
     ) -> Result<Measured<Items<Expr>>, Stop>
         requires { Nests self.now.depth (E.pre self.now.parts) (E.post self.now.parts) (B.pre self.now.blocks) (B.post self.now.blocks) }
@@ -59,14 +69,14 @@ where
     {
         let mut found = first;
         'more: while let Some(_) = tokens.sign(Sign::Comma) {
-            push(&mut found, self.inner_expr(tokens, 0)?)?;
+            push(self.alloc, &mut found, self.inner_expr(tokens, 0)?)?;
         }
         Ok(found)
     }
 
     /// A list of expressions.
     #[tactic(auto, using(crate::proofs::Low::exprs_low), unfolding(lua_grammar::specs::Expressions::list))]
-    pub fn list(&self, tokens: &mut Tokens<'_>) -> Result<Measured<Items<Expr>>, Stop>
+    pub fn list(&self, tokens: &mut Tokens) -> Result<Measured<Items<Expr>>, Stop>
         requires { Nests self.now.depth (E.pre self.now.parts) (E.post self.now.parts) (B.pre self.now.blocks) (B.post self.now.blocks) }
         ensures list { Reads (spec.list (parts self.now.depth) tokens.old) result tokens.new }
         ensures low { IfOk result (λ list. list.depth ≤ self.now.depth) }

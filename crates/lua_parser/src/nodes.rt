@@ -9,7 +9,7 @@ use crate::operator::Operator;
 use lanes_arena::Bytes;
 use lua_grammar::{Arguments, Measured};
 use lua_tokens::Place;
-use lua_tree::{Body, Expr, ExprKind, Field, Unary};
+use lua_tree::{Body, Expr, ExprKind, Field, Pair, Unary};
 use sqlite_items::{Boxed, Items};
 use std::alloc::{AllocError, Global};
 
@@ -71,8 +71,11 @@ pub fn dotted(
 {
     let Measured { what, depth } = object;
     let key = leaf(ExprKind::Text(name), name_place);
-    let kind = ExprKind::Index(Boxed::new(alloc, what)?, Boxed::new(alloc, key.what)?);
-    Ok(above(kind, place, depth))
+    let pair = Pair {
+        left: what,
+        right: key.what,
+    };
+    Ok(above(ExprKind::Index(Boxed::new(alloc, pair)?), place, depth))
 }
 
 /// An index that is written with a bracket at this place.
@@ -87,11 +90,11 @@ pub fn indexed(
     ensures { IfOk result (λ e. e ≡ spec.indexed object place key) }
 {
     let depth = object.depth.max(key.depth);
-    let kind = ExprKind::Index(
-        Boxed::new(alloc, object.what)?,
-        Boxed::new(alloc, key.what)?,
-    );
-    Ok(above(kind, place, depth))
+    let pair = Pair {
+        left: object.what,
+        right: key.what,
+    };
+    Ok(above(ExprKind::Index(Boxed::new(alloc, pair)?), place, depth))
 }
 
 pub fn called(
@@ -105,7 +108,10 @@ pub fn called(
 {
     let Arguments { exprs, place } = arguments;
     let depth = function.depth.max(exprs.depth);
-    let kind = ExprKind::Call(Boxed::new(alloc, function.what)?, exprs.what);
+    let kind = ExprKind::Call(
+        Boxed::new(alloc, function.what)?,
+        Boxed::new(alloc, exprs.what)?,
+    );
     Ok(above(kind, place, depth))
 }
 
@@ -121,7 +127,11 @@ pub fn method_called(
 {
     let Arguments { exprs, place } = arguments;
     let depth = object.depth.max(exprs.depth);
-    let kind = ExprKind::Method(Boxed::new(alloc, object.what)?, name, exprs.what);
+    let kind = ExprKind::Method(
+        Boxed::new(alloc, object.what)?,
+        Boxed::new(alloc, name)?,
+        Boxed::new(alloc, exprs.what)?,
+    );
     Ok(above(kind, place, depth))
 }
 
@@ -151,12 +161,15 @@ pub fn binary_node(
     ensures { IfOk result (λ e. e ≡ spec.binary_node (op operator) place left right) }
 {
     let depth = left.depth.max(right.depth);
-    let first = Boxed::new(alloc, left.what)?;
-    let second = Boxed::new(alloc, right.what)?;
+    let pair = Pair {
+        left: left.what,
+        right: right.what,
+    };
+    let parts = Boxed::new(alloc, pair)?;
     match operator {
-        Operator::Or => Ok(above(ExprKind::Or(first, second), place, depth)),
-        Operator::And => Ok(above(ExprKind::And(first, second), place, depth)),
-        Operator::Plain(plain) => Ok(above(ExprKind::Binary(plain, first, second), place, depth)),
+        Operator::Or => Ok(above(ExprKind::Or(parts), place, depth)),
+        Operator::And => Ok(above(ExprKind::And(parts), place, depth)),
+        Operator::Plain(plain) => Ok(above(ExprKind::Binary(plain, parts), place, depth)),
     }
 }
 

@@ -1,8 +1,9 @@
 //! Operands.
 
-ghost use Rattle.std.specs.Prelude.{true};
+ghost use Rattle.std.specs.Prelude.{◌≡◌, true, None};
 ghost use Rattle.lua_grammar.specs.Expressions as spec;
 ghost use Rattle.lua_grammar.specs.Statements.{parts};
+ghost use Rattle.lua_parser.specs.Looks.{kind_at, name_at};
 ghost use Rattle.lua_parser.specs.Nests.{Nests};
 ghost use Rattle.lua_parser.specs.Reads.{Reads};
 
@@ -22,21 +23,37 @@ const UNARY: u8 = 11;
 
 impl<E, B> Parts<E, B>
 where
-    E: Fn(Global, &mut Tokens<'_>, usize, Part) -> Result<Measured<Expr>, Stop> + Copy,
-    B: Fn(Global, &mut Tokens<'_>, usize) -> Result<Measured<Items<Stat>>, Stop> + Copy,
+    E: Fn(Global, &mut Tokens, usize, Part) -> Result<Measured<Expr>, Stop> + Copy,
+    B: Fn(Global, &mut Tokens, usize) -> Result<Measured<Items<Stat>>, Stop> + Copy,
 {
     /// An expression without a binary operator.
-    #[tactic(auto, using(crate::proofs::OperandTurns::operand_rules, crate::proofs::Low::unary_low))]
-    pub fn operand(&self, tokens: &mut Tokens<'_>) -> Result<Measured<Expr>, Stop>
+    #[tactic(auto, using(crate::proofs::OperandTurns::operand_rules))]
+    pub fn operand(&self, tokens: &mut Tokens) -> Result<Measured<Expr>, Stop>
         requires { Nests self.now.depth (E.pre self.now.parts) (E.post self.now.parts) (B.pre self.now.blocks) (B.post self.now.blocks) }
         ensures { Reads (spec.operand (parts self.now.depth) true tokens.old) result tokens.new }
     {
         if let Some((kind, place)) = tokens.atom()? {
             return Ok(nodes::leaf(kind, place));
         }
-        if let Some((name, place)) = tokens.name_if(true)? {
-            return self.suffixes(tokens, nodes::name_leaf(name, place));
+        let Some((name, place)) = tokens.name_if(true)? else {
+            return self.other_operand(tokens);
+        };
+        let leaf = nodes::name_leaf(name, place);
+        if !tokens.has_suffix() {
+            return Ok(leaf);
         }
+        self.suffixes(tokens, leaf)
+    }
+
+    /// An operand that begins with neither an atom nor a name.
+    #[inline(never)]
+    #[tactic(auto, using(crate::proofs::OperandTurns::operand_rules, crate::proofs::Low::unary_low))]
+    fn other_operand(&self, tokens: &mut Tokens) -> Result<Measured<Expr>, Stop>
+        requires nests { Nests self.now.depth (E.pre self.now.parts) (E.post self.now.parts) (B.pre self.now.blocks) (B.post self.now.blocks) }
+        requires no_atom { kind_at tokens.old ≡ None }
+        requires no_name { name_at tokens.old ≡ None }
+        ensures { Reads (spec.operand (parts self.now.depth) true tokens.old) result tokens.new }
+    {
         let room = 1 <= self.depth;
         if let Some(place) = tokens.sign_if(Sign::OpenParen, room)? {
             let group = self.group(tokens, place)?;

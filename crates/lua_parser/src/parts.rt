@@ -36,8 +36,8 @@ pub struct Parts<E, B> {
 
 impl<E, B> Parts<E, B>
 where
-    E: Fn(Global, &mut Tokens<'_>, usize, Part) -> Result<Measured<Expr>, Stop> + Copy,
-    B: Fn(Global, &mut Tokens<'_>, usize) -> Result<Measured<Items<Stat>>, Stop> + Copy,
+    E: Fn(Global, &mut Tokens, usize, Part) -> Result<Measured<Expr>, Stop> + Copy,
+    B: Fn(Global, &mut Tokens, usize) -> Result<Measured<Items<Stat>>, Stop> + Copy,
 {
     /// Those of a depth less by this, or of 0.
     pub fn below(&self, less: usize) -> Parts<E, B>
@@ -54,7 +54,7 @@ where
     }
 
     /// An expression of operators from this level on.
-    pub fn inner_expr(&self, tokens: &mut Tokens<'_>, least: u8) -> Result<Measured<Expr>, Stop>
+    pub fn inner_expr(&self, tokens: &mut Tokens, least: u8) -> Result<Measured<Expr>, Stop>
         requires { Nests self.now.depth (E.pre self.now.parts) (E.post self.now.parts) (B.pre self.now.blocks) (B.post self.now.blocks) }
         ensures { Reads ((parts self.now.depth).expr least tokens.old) result tokens.new }
     {
@@ -64,7 +64,7 @@ where
     /// What goes on with an expression.
     pub fn inner_rest(
         &self,
-        tokens: &mut Tokens<'_>,
+        tokens: &mut Tokens,
         first: Measured<Expr>,
     ) -> Result<Measured<Expr>, Stop>
         requires { Nests self.now.depth (E.pre self.now.parts) (E.post self.now.parts) (B.pre self.now.blocks) (B.post self.now.blocks) }
@@ -74,7 +74,7 @@ where
     }
 
     /// A table constructor after the brace at this place.
-    pub fn inner_table(&self, tokens: &mut Tokens<'_>, place: Place) -> Result<Measured<Expr>, Stop>
+    pub fn inner_table(&self, tokens: &mut Tokens, place: Place) -> Result<Measured<Expr>, Stop>
         requires { Nests self.now.depth (E.pre self.now.parts) (E.post self.now.parts) (B.pre self.now.blocks) (B.post self.now.blocks) }
         ensures { Reads ((parts self.now.depth).table place tokens.old) result tokens.new }
     {
@@ -82,7 +82,7 @@ where
     }
 
     /// The statements of a block.
-    pub fn inner_block(&self, tokens: &mut Tokens<'_>) -> Result<Measured<Items<Stat>>, Stop>
+    pub fn inner_block(&self, tokens: &mut Tokens) -> Result<Measured<Items<Stat>>, Stop>
         requires { Nests self.now.depth (E.pre self.now.parts) (E.post self.now.parts) (B.pre self.now.blocks) (B.post self.now.blocks) }
         ensures { Reads ((parts self.now.depth).block tokens.old) result tokens.new }
     {

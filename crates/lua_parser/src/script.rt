@@ -15,7 +15,7 @@ const DEEPEST: usize = 60;
 
 /// A script of a depth of at most 60.
 #[tactic(auto, using(crate::proofs::ScriptEnds::script_rules))]
-pub fn script(alloc: Global, tokens: &mut Tokens<'_>) -> Result<Tree, Stop>
+pub fn script(alloc: Global, tokens: &mut Tokens) -> Result<Tree, Stop>
     ensures { Reads (spec.script 60 tokens.old) result tokens.new }
 {
     let block = nested_block(alloc, tokens, DEEPEST)?;
@@ -24,7 +24,7 @@ pub fn script(alloc: Global, tokens: &mut Tokens<'_>) -> Result<Tree, Stop>
 
 /// The end of a script, behind its block.
 #[tactic(auto, using(crate::proofs::ScriptEnds::whole_rules))]
-fn whole(tokens: &mut Tokens<'_>, block: Measured<Items<Stat>>) -> Result<Tree, Stop>
+fn whole(tokens: &mut Tokens, block: Measured<Items<Stat>>) -> Result<Tree, Stop>
     ensures { Reads (spec.whole block tokens.old) result tokens.new }
 {
     if tokens.end().is_none() {

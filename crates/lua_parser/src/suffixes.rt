@@ -19,12 +19,12 @@ use std::alloc::Global;
 
 impl<E, B> Parts<E, B>
 where
-    E: Fn(Global, &mut Tokens<'_>, usize, Part) -> Result<Measured<Expr>, Stop> + Copy,
-    B: Fn(Global, &mut Tokens<'_>, usize) -> Result<Measured<Items<Stat>>, Stop> + Copy,
+    E: Fn(Global, &mut Tokens, usize, Part) -> Result<Measured<Expr>, Stop> + Copy,
+    B: Fn(Global, &mut Tokens, usize) -> Result<Measured<Items<Stat>>, Stop> + Copy,
 {
     /// An expression in brackets after the bracket.
     #[tactic(auto, using(crate::proofs::Low::first_low), unfolding(crate::specs::Steps::bracketed))]
-    fn bracketed(&self, tokens: &mut Tokens<'_>) -> Result<Measured<Expr>, Stop>
+    fn bracketed(&self, tokens: &mut Tokens) -> Result<Measured<Expr>, Stop>
         requires { Nests self.now.depth (E.pre self.now.parts) (E.post self.now.parts) (B.pre self.now.blocks) (B.post self.now.blocks) }
         ensures key { Reads (bracketed (parts self.now.depth) tokens.old) result tokens.new }
         ensures low { IfOk result (λ key. key.depth ≤ self.now.depth) }
@@ -35,10 +35,11 @@ where
     }
 
     /// An index of this expression, if one comes next, and whether one did.
+    #[inline(never)]
     #[tactic(auto, using(crate::proofs::SuffixTurns::index_rules))]
     pub fn index(
         &self,
-        tokens: &mut Tokens<'_>,
+        tokens: &mut Tokens,
         object: Measured<Expr>,
     ) -> Result<(Measured<Expr>, bool), Stop>
         requires { Nests self.now.depth (E.pre self.now.parts) (E.post self.now.parts) (B.pre self.now.blocks) (B.post self.now.blocks) }
@@ -59,10 +60,11 @@ where
     }
 
     /// A call of this expression, if one comes next, and whether one did.
+    #[inline(never)]
     #[tactic(auto, using(crate::proofs::SuffixTurns::call_rules))]
     pub fn call(
         &self,
-        tokens: &mut Tokens<'_>,
+        tokens: &mut Tokens,
         function: Measured<Expr>,
     ) -> Result<(Measured<Expr>, bool), Stop>
         requires { Nests self.now.depth (E.pre self.now.parts) (E.post self.now.parts) (B.pre self.now.blocks) (B.post self.now.blocks) }
@@ -85,17 +87,18 @@ where
     }
 
     /// The indexes and calls that go on with an expression.
+    #[inline(never)]
     #[tactic(auto, using(crate::proofs::SuffixTurns::suffix_rules))]
     pub fn suffixes(
         &self,
-        tokens: &mut Tokens<'_>,
+        tokens: &mut Tokens,
         first: Measured<Expr>,
     ) -> Result<Measured<Expr>, Stop>
         requires { Nests self.now.depth (E.pre self.now.parts) (E.post self.now.parts) (B.pre self.now.blocks) (B.post self.now.blocks) }
         ensures { Reads (spec.suffixes (parts self.now.depth) first tokens.old) result tokens.new }
     {
         let mut found = first;
-        'turns: loop {
+        'turns: while tokens.has_suffix() {
             let (object, is_index) = self.index(tokens, found)?;
             if is_index {
                 found = object;
@@ -107,5 +110,6 @@ where
             }
             found = function;
         }
+        Ok(found)
     }
 }

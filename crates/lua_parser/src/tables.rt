@@ -20,7 +20,7 @@ use std::alloc::Global;
 
 /// What follows a field: whether another one may come after it, or the table ends.
 #[tactic(auto, using(crate::proofs::FieldTurns::separator_rules))]
-fn separated(tokens: &mut Tokens<'_>) -> Result<bool, Stop>
+fn separated(tokens: &mut Tokens) -> Result<bool, Stop>
     ensures { Reads (fields.separator tokens.old) result tokens.new }
 {
     if let Some(_) = tokens.sign(Sign::Comma) {
@@ -37,14 +37,14 @@ fn separated(tokens: &mut Tokens<'_>) -> Result<bool, Stop>
 
 impl<E, B> Parts<E, B>
 where
-    E: Fn(Global, &mut Tokens<'_>, usize, Part) -> Result<Measured<Expr>, Stop> + Copy,
-    B: Fn(Global, &mut Tokens<'_>, usize) -> Result<Measured<Items<Stat>>, Stop> + Copy,
+    E: Fn(Global, &mut Tokens, usize, Part) -> Result<Measured<Expr>, Stop> + Copy,
+    B: Fn(Global, &mut Tokens, usize) -> Result<Measured<Items<Stat>>, Stop> + Copy,
 {
     /// A field after the name that begins it.
     #[tactic(auto, using(crate::proofs::FieldTurns::name_rules, crate::proofs::Low::first_low, crate::proofs::Low::rest_low))]
     fn named_field(
         &self,
-        tokens: &mut Tokens<'_>,
+        tokens: &mut Tokens,
         name: Bytes,
         place: Place,
     ) -> Result<Measured<Field>, Stop>
@@ -62,7 +62,7 @@ where
 
     /// A field after the bracket that begins it.
     #[tactic(auto, using(crate::proofs::Low::first_low), unfolding(crate::specs::Fields::key_field))]
-    fn keyed_field(&self, tokens: &mut Tokens<'_>) -> Result<Measured<Field>, Stop>
+    fn keyed_field(&self, tokens: &mut Tokens) -> Result<Measured<Field>, Stop>
         requires { Nests self.now.depth (E.pre self.now.parts) (E.post self.now.parts) (B.pre self.now.blocks) (B.post self.now.blocks) }
         ensures field { Reads (fields.key_field (parts self.now.depth) tokens.old) result tokens.new }
         ensures low { IfOk result (λ field. field.depth ≤ self.now.depth) }
@@ -76,7 +76,7 @@ where
     }
 
     #[tactic(auto, using(crate::proofs::FieldTurns::field_rules, crate::proofs::Low::first_low))]
-    fn field(&self, tokens: &mut Tokens<'_>) -> Result<Measured<Field>, Stop>
+    fn field(&self, tokens: &mut Tokens) -> Result<Measured<Field>, Stop>
         requires { Nests self.now.depth (E.pre self.now.parts) (E.post self.now.parts) (B.pre self.now.blocks) (B.post self.now.blocks) }
         ensures field { Reads (fields.one_field (parts self.now.depth) tokens.old) result tokens.new }
         ensures low { IfOk result (λ field. field.depth ≤ self.now.depth) }
@@ -95,8 +95,9 @@ where
     }
 
     /// A table constructor after the brace at this place.
+    #[inline(never)]
     #[tactic(auto, using(crate::proofs::FieldTurns::table_rules))]
-    pub fn table(&self, tokens: &mut Tokens<'_>, place: Place) -> Result<Measured<Expr>, Stop>
+    pub fn table(&self, tokens: &mut Tokens, place: Place) -> Result<Measured<Expr>, Stop>
         requires { Nests self.now.depth (E.pre self.now.parts) (E.post self.now.parts) (B.pre self.now.blocks) (B.post self.now.blocks) }
         ensures { Reads (spec.table (parts self.now.depth) place tokens.old) result tokens.new }
     {
@@ -106,7 +107,7 @@ where
                 return Ok(nodes::table_node(place, found));
             }
             let field = self.field(tokens)?;
-            lists::push(&mut found, field)?;
+            lists::push(self.alloc, &mut found, field)?;
             if !separated(tokens)? {
                 return Ok(nodes::table_node(place, found));
             }

@@ -5,7 +5,7 @@ ghost use Rattle.lua_parser.specs.Answers.{EndsWithEnd};
 
 use crate::parse;
 use lanes_arena::Bytes;
-use lua_tokens::{Lexeme, Place, Sign, Token, Word};
+use lua_tokens::{Lexeme, Place, Sign, Token, TokenList, Word};
 use lua_tree::{Block, Body, Branch, Expr, ExprKind, Field, Stat, Tree};
 use std::alloc::{AllocError, Global};
 use std::process::Abort;
@@ -222,10 +222,10 @@ fn lexeme(alloc: Global, text: &[u8]) -> Result<Lexeme, AllocError> {
 }
 
 /// The tokens of a script with a blank or a line feed after each of them. The place of a token is its number.
-fn tokens_of(alloc: Global, script: &[u8]) -> Result<Vec<Token>, AllocError>
-    ensures { IfOk result (λ found. EndsWithEnd found.items) }
+fn tokens_of(alloc: Global, script: &[u8]) -> Result<TokenList, AllocError>
+    ensures { IfOk result (λ found. EndsWithEnd found) }
 {
-    let mut found = Vec::new(alloc);
+    let mut found = TokenList::new(alloc);
     let mut word = Vec::new(alloc);
     let mut place = Place { at: 0, line: 1 };
     for byte in script {
@@ -357,12 +357,12 @@ impl<'a> Shown<'a> {
             ExprKind::Function(_) => self.put(b"function"),
             ExprKind::Call(_, arguments) => {
                 self.put(b"call")?;
-                self.put_count(alloc, arguments.len())
+                self.put_count(alloc, arguments.get().len())
             }
             ExprKind::Method(_, name, arguments) => {
                 self.put(b"method-")?;
-                self.put(name.as_slice())?;
-                self.put_count(alloc, arguments.len())
+                self.put(name.get().as_slice())?;
+                self.put_count(alloc, arguments.get().len())
             }
             ExprKind::Table(fields) => {
                 self.put(b"table")?;
@@ -378,18 +378,19 @@ impl<'a> Shown<'a> {
         self.put_number(alloc, expr.line)?;
         self.put(b" ")?;
         match &expr.what {
-            ExprKind::Binary(_, left, right)
-            | ExprKind::And(left, right)
-            | ExprKind::Or(left, right)
-            | ExprKind::Index(left, right) => {
-                self.push(Piece::Expr(right.get()))?;
-                self.push(Piece::Expr(left.get()))
+            ExprKind::Binary(_, pair)
+            | ExprKind::And(pair)
+            | ExprKind::Or(pair)
+            | ExprKind::Index(pair) => {
+                let pair = pair.get();
+                self.push(Piece::Expr(&pair.right))?;
+                self.push(Piece::Expr(&pair.left))
             }
             ExprKind::Unary(_, inner) | ExprKind::Paren(inner) => self.push(Piece::Expr(
                 inner.get(),
             )),
             ExprKind::Call(function, arguments) | ExprKind::Method(function, _, arguments) => {
-                self.push_exprs(arguments.as_slice())?;
+                self.push_exprs(arguments.get().as_slice())?;
                 self.push(Piece::Expr(function.get()))
             }
             ExprKind::Function(body) => self.body(alloc, body.get()),
@@ -569,7 +570,7 @@ fn text_of(alloc: Global, tree: &Tree) -> Result<Vec<u8>, AllocError> {
 fn trees_of_scripts(rt: HostRuntime) -> Result<(), Fail> {
     for (script, wanted) in TREES {
         let tokens = tokens_of(rt.alloc(), script)?;
-        let tree = parse(rt.alloc(), &tokens)?;
+        let tree = parse(rt.alloc(), tokens)?;
         let text = text_of(rt.alloc(), &tree)?;
         assert_eq!(rt; text.as_slice(), wanted, "at {script:?}");
     }
@@ -580,7 +581,7 @@ fn trees_of_scripts(rt: HostRuntime) -> Result<(), Fail> {
 fn faults_of_scripts(rt: HostRuntime) -> Result<(), Fail> {
     for (script, number, line, wanted) in FAULTS {
         let tokens = tokens_of(rt.alloc(), script)?;
-        let fault = parse(rt.alloc(), &tokens).err().ok_or("a fault")?;
+        let fault = parse(rt.alloc(), tokens).err().ok_or("a fault")?;
         let text = fault.to_string(rt.alloc())?;
         assert_eq!(rt; text.as_str(), wanted, "at {script:?}");
         assert_eq!(rt;

@@ -1,11 +1,15 @@
 //! The tokens of a Lua script, with the places where they stand.
 #![tactic(auto)]
 
+mod list;
 mod place;
 mod sign;
+#[cfg(test)]
+mod tests;
 mod token;
 mod word;
 
+pub use list::TokenList;
 pub use place::Place;
 pub use sign::Sign;
 pub use token::{Lexeme, Token};

@@ -29,19 +29,27 @@ pub enum ExprKind {
     Dots(Place),
     Name(Bytes, Place),
     /// The object and the key.
-    Index(Boxed<Expr>, Boxed<Expr>),
+    Index(Boxed<Pair>),
     /// The function and its arguments.
-    Call(Boxed<Expr>, Items<Expr>),
+    Call(Boxed<Expr>, Boxed<Items<Expr>>),
     /// The object, the method's name and its arguments.
-    Method(Boxed<Expr>, Bytes, Items<Expr>),
+    Method(Boxed<Expr>, Boxed<Bytes>, Boxed<Items<Expr>>),
     Function(Boxed<Body>),
-    Binary(Binary, Boxed<Expr>, Boxed<Expr>),
+    Binary(Binary, Boxed<Pair>),
     Unary(Unary, Boxed<Expr>),
-    And(Boxed<Expr>, Boxed<Expr>),
-    Or(Boxed<Expr>, Boxed<Expr>),
+    And(Boxed<Pair>),
+    Or(Boxed<Pair>),
     /// An expression in parentheses, which gives one value.
     Paren(Boxed<Expr>),
     Table(Items<Field>),
+}
+
+/// The two parts of an expression, which share a box. What is rare lies in boxes of its own, so that an expression has 40 bytes.
+#[cycle(tree)]
+#[derive(Debug, Drop)]
+pub struct Pair {
+    pub left: Expr,
+    pub right: Expr,
 }
 
 /// A field of a table constructor (manual, section 3.4.9).

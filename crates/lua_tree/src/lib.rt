@@ -5,6 +5,6 @@ mod expr;
 mod operator;
 mod stat;
 
-pub use expr::{Expr, ExprKind, Field};
+pub use expr::{Expr, ExprKind, Field, Pair};
 pub use operator::{Binary, Unary};
 pub use stat::{Block, Body, Branch, Stat, Tree};

@@ -11,7 +11,7 @@ pub loop-found-init : goal.loop-found-init
 loop-found-init c =
     let e = c.past_first-left.ensures in
     record {
-      goes = rw (c.in_ok-found.ensures.items, e) (λ ms h. h);
+      goes = rw (c.new-found.ensures, e) (λ ms h. h);
       stops = rw e (λ stop h. h);
       lines = rw e (ap (λ z. 1 + z) (first_lines c.args.script.now));
       suffix = rw e (first_suffix c.args.script.now);
@@ -39,7 +39,7 @@ overflow_add-line-in-loop-found c =
 pub returns-in_err-what : goal.returns-in_err-what
 returns-in_err-what c =
     let h = stops_read c.args.script.now c.loop-found.left.now c.gap-here.result.now c.in_err-what.field-0.0 c.loop-found.invariant.stops c.gap-here.ensures c.in_err-what.ensures in
-    passed_on c.args.script.now c.from_residual-in_err-what.result c.in_err-what.field-0.0 c.from_residual-in_err-what.ensures.1 h
+    passed_on c.args.script.now c.from_residual.result c.in_err-what.field-0.0 c.from_residual.ensures.1 h
 
 pub returns-then-last : goal.returns-then-last
 returns-then-last c =
@@ -47,9 +47,9 @@ returns-then-last c =
     let p = line_placed c.args.script.now c.loop-found.left.now c.gap-here.result.now c.loop-found.invariant.suffix g in
     let n : c.loop-found.line + c.line_ends.result ≡ line c.args.script.now c.gap-here.result.now =
     omega (arith, p, c.loop-found.invariant.lines, c.line_ends.ensures.count, ap line_ends c.split_at.ensures.front, gap_lines c.loop-found.left.now c.gap-here.result.now g) in
-    let t = goes_last c.args.script.now c.loop-found.found.items (record { what = c.in_ok-what.what; place = record { at = length c.args.script.now - length c.gap-here.result.now; line = c.loop-found.line + c.line_ends.result } })
+    let t = goes_last c.args.script.now c.loop-found.found (record { what = c.in_ok-what.what; place = record { at = length c.args.script.now - length c.gap-here.result.now; line = c.loop-found.line + c.line_ends.result } })
     c.loop-found.left.now c.gap-here.result.now c.in_ok-what.rest.now c.loop-found.invariant.goes g c.in_ok-what.ensures (finish_seen c.in_ok-what.what true c.if-last.ensures) refl n in
-    subst (λ z. Lexes c.args.script.now (marks z)) (sym c.in_ok-push.ensures.items) t
+    subst (λ z. Lexes c.args.script.now (marks z)) (sym c.in_ok-push.ensures) t
 
 pub loop-found-smaller : goal.loop-found-smaller
 loop-found-smaller c =
@@ -61,10 +61,10 @@ loop-found-preserved c =
     let p = line_placed c.args.script.now c.loop-found.left.now c.gap-here.result.now c.loop-found.invariant.suffix g in
     let n : c.loop-found.line + c.line_ends.result ≡ line c.args.script.now c.gap-here.result.now =
     omega (arith, p, c.loop-found.invariant.lines, c.line_ends.ensures.count, ap line_ends c.split_at.ensures.front, gap_lines c.loop-found.left.now c.gap-here.result.now g) in
-    let t = goes_more c.args.script.now c.loop-found.found.items (record { what = c.in_ok-what.what; place = record { at = length c.args.script.now - length c.gap-here.result.now; line = c.loop-found.line + c.line_ends.result } })
+    let t = goes_more c.args.script.now c.loop-found.found (record { what = c.in_ok-what.what; place = record { at = length c.args.script.now - length c.gap-here.result.now; line = c.loop-found.line + c.line_ends.result } })
     c.loop-found.left.now c.gap-here.result.now c.in_ok-what.rest.now c.loop-found.invariant.goes g c.in_ok-what.ensures (finish_seen c.in_ok-what.what false c.if-last.ensures) refl n in
     record {
-      goes = subst (λ z. Goes c.args.script.now z c.in_ok-what.rest.now) (sym c.in_ok-push.ensures.items) t;
+      goes = subst (λ z. Goes c.args.script.now z c.in_ok-what.rest.now) (sym c.in_ok-push.ensures) t;
       stops = stops_more c.args.script.now c.loop-found.left.now c.gap-here.result.now c.in_ok-what.rest.now (lex c.in_ok-what.what) c.loop-found.invariant.stops g c.in_ok-what.ensures (finish_seen c.in_ok-what.what false c.if-last.ensures);
       lines = omega (arith, c.lines.ensures, c.loop-found.invariant.lines, c.line_ends.ensures.count, ap line_ends c.split_at.ensures.front, gap_lines c.loop-found.left.now c.gap-here.result.now g);
       suffix = suffix_trans c.args.script.now c.gap-here.result.now c.in_ok-what.rest.now

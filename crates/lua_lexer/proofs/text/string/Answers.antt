@@ -6,7 +6,7 @@ use Rattle.lua_lexer.proofs.text.string.Goals as goal
 
 pub loop-found-init : goal.loop-found-init
 loop-found-init c = record {
-  good = λ value rest h. subst (λ (z : List ℕ). Quoted c.args.quote c.args.bytes.now (z ++ value) rest) (sym c.new-found.ensures.items) h;
+  good = λ value rest h. subst (λ (z : List ℕ). Quoted c.args.quote c.args.bytes.now (z ++ value) rest) (sym c.in_ok-found.ensures.items) h;
   bad = λ stop h. h;
 }
 
