@@ -73,13 +73,28 @@ end
         size += len(part)
 
 
+def shapes():
+    """Scripts of one long list each, which are read without deep recursion and in linear time."""
+    line = "value = value + 1\n"
+    return [
+        ("one statement a line", line * (LIMIT // len(line))),
+        ("60,000 `elseif` parts", "if a then" + " elseif b then" * 60_000 + " end"),
+        ("one call with 100,000 arguments", "f(" + "1, " * 99_999 + "1)"),
+        ("a table of 100,000 fields", "t = {" + "1, " * 100_000 + "}"),
+        ("a block of 100,000 statements", "do " + "f() " * 100_000 + "end"),
+    ]
+
+
 def least(command, runs):
-    """The least time of a run in seconds, and the status."""
-    best, status = None, None
-    for _ in range(runs):
+    """The least time of a run in seconds, and the status. Five seconds of runs are enough, but two are made at least."""
+    best, status, spent = None, None, 0
+    for run in range(runs):
+        if 5 < spent and 2 <= run:
+            break
         start = time.perf_counter()
         status = subprocess.run(command, stdout=subprocess.DEVNULL, stderr=subprocess.DEVNULL).returncode
         taken = time.perf_counter() - start
+        spent += taken
         best = taken if best is None else min(best, taken)
     return best, status
 
@@ -99,7 +114,9 @@ def main():
         ("sends and receives by turns, one key", first_form(1)),
         ("sends and receives by turns, 10,000 keys", first_form(10_000)),
         ("all sends of one key, then all receives", sends_first()),
-        ("Lua code (read, and refused as not built yet)", real_looking()),
+        ("Lua code (read and parsed, and refused as not built yet)", real_looking()),
+        ("the same and a bad byte (read, and refused at its end without being parsed)", real_looking() + "@"),
+        *shapes(),
     ]
     luac = shutil.which("luac5.4")
     with tempfile.TemporaryDirectory() as folder:

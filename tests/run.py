@@ -10,8 +10,11 @@ A case is a folder with any of these files:
     stdout, stderr  what must be written (nothing where they are missing)
     status          the exit status that is wanted (0 where it is missing)
 
+Each row of grammar_rows.py is a case too: a script on standard input, which has no fault, or one with this line and text.
+
 With --after LOG the counts of a run of `rt ci` in LOG are added.
 """
+import concurrent.futures
 import difflib
 import os
 import pathlib
@@ -20,6 +23,9 @@ import shutil
 import subprocess
 import sys
 import tempfile
+
+sys.dont_write_bytecode = True
+import grammar_rows
 
 TESTS = pathlib.Path(__file__).resolve().parent
 PROGRAM = TESTS.parent / "crates" / "lanes" / "out" / "lanes"
@@ -66,6 +72,28 @@ def run(case):
     return lines
 
 
+def run_row(row):
+    """Runs a row of the grammar, and answers what differs, as lines."""
+    script, fault = row
+    wanted = f"lanes: stdin:{fault}\n" if fault else "lanes: stdin: not built yet\n"
+    try:
+        ended = subprocess.run([str(PROGRAM), "-"], input=script.encode(), capture_output=True, timeout=SECONDS)
+    except subprocess.TimeoutExpired:
+        return [f"no end after {SECONDS} seconds"]
+    lines = [] if ended.returncode == 3 else [f"status {ended.returncode}, wanted 3"]
+    return lines + differences("stdout", b"", ended.stdout) + differences("stderr", wanted.encode(), ended.stderr)
+
+
+def all_cases():
+    """What is run, and what differs there, as lines."""
+    for case in sorted(path for path in TESTS.iterdir() if path.is_dir()):
+        yield f"tests/{case.name}", run(case)
+    rows = list(grammar_rows.rows())
+    with concurrent.futures.ThreadPoolExecutor(os.cpu_count()) as pool:
+        for row, lines in zip(rows, pool.map(run_row, rows)):
+            yield f"the row {row[0][:200]!r} of tests/grammar_rows.py", lines
+
+
 def differences(name, wanted, found):
     if wanted == found:
         return []
@@ -96,11 +124,10 @@ def main():
         print(f"FAILED: the program is not built ({PROGRAM})")
         failed += 1
     else:
-        for case in sorted(path for path in TESTS.iterdir() if path.is_dir()):
-            lines = run(case)
+        for name, lines in all_cases():
             passed, failed = (passed, failed + 1) if lines else (passed + 1, failed)
             if lines:
-                print(f"FAILED: tests/{case.name}", *lines, sep="\n    ")
+                print(f"FAILED: {name}", *lines, sep="\n    ")
     print(f"{passed} passed, {failed} failed")
     return 1 if failed else 0
 

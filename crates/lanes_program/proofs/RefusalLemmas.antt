@@ -1,28 +1,61 @@
 -- A script that the input gave and that is refused.
-use Rattle.std.proofs.Common.{◌≡◌, subst, List, ℕ, Vec, Global, Result, Err}
+use Rattle.std.proofs.Common.{◌≡◌, refl, ap, subst, List, [], ◌∷◌, ℕ, Vec, Global, Result, Err}
 use Rattle.std.specs.declared.option.Option.{Option}
 use Rattle.std.specs.declared.option.Option.TheVariants.{Some, None}
 use Rattle.std.specs.Option.{MatchOption}
 use Rattle.lanes_program.specs.declared.refusal.Refusal.{Refusal}
-use Rattle.lanes_program.specs.declared.refusal.Refusal.TheVariants.{TooLong, Lexical, NotBuilt}
-use Rattle.lua_lexer.specs.Tokens.{Mark, Lexes}
+use Rattle.lanes_program.specs.declared.refusal.Refusal.TheVariants.{TooLong, Lexical, Grammatical, NotBuilt}
+use Rattle.lua_tokens.specs.declared.token.Token.{Token}
+use Rattle.lua_tokens.specs.declared.token.Lexeme.{Lexeme}
+use Rattle.lua_tokens.specs.declared.token.Lexeme.TheVariants as lexeme
+use Rattle.lua_lexer.specs.Tokens as lexer
+use Rattle.lua_lexer.specs.Tokens.{Mark, LexesFrom, Lexes, past_first}
+use Rattle.lua_lexer.specs.View.{lex, marks}
+use Rattle.lua_grammar.specs.Tokens.{finish}
+use Rattle.lua_parser.specs.Answers.{EndsWithEnd}
 use Rattle.first_form.specs.declared.line.Line.{Line}
 use Rattle.first_form.specs.Outcome.{IsFirstForm}
 use Rattle.lanes_program.specs.declared.run.End.{End}
 use Rattle.lanes_program.specs.declared.run.End.TheVariants as end
 use Rattle.lanes_program.specs.Reading.{Gave}
-use Rattle.lanes_program.specs.Refusals.{Refuses, IsRefused}
+use Rattle.lanes_program.specs.Refusals.{IsParsed, Refuses, IsRefused}
 
 pub refused_here : (old new : Option (List ℕ)) (script : List ℕ) (refusal : Refusal) → Gave old new script → Refuses script refusal → IsRefused old new refusal
 refused_here old new script TooLong gave refuses = absurd refuses
 refused_here old new script (Lexical fault) gave refuses = (script, gave, refuses)
+refused_here old new script (Grammatical fault bytes) gave refuses = (script, gave, refuses)
 refused_here old new script NotBuilt gave refuses = (script, gave, refuses)
 
--- a script that has tokens, and whose bytes are of no first form, is refused as not built
-pub not_built : (script text : List ℕ) (found : Option (Vec Line Global)) (refusal : Refusal) → text ≡ script → (marks : List Mark) → Lexes script marks →
+-- a script that is parsed, and whose bytes are of no first form, is refused as not built
+pub not_built : (script text : List ℕ) (found : Option (Vec Line Global)) (refusal : Refusal) → text ≡ script → IsParsed script →
     MatchOption found ((lines : List Line) → IsFirstForm text lines → ⊥) (λ lines. IsFirstForm text lines.items) → found ≡ None →
     ◌≡◌ {A = Result (Vec Line Global) End} (Err (end.Refused NotBuilt)) (Err (end.Refused refusal)) → Refuses script refusal
-not_built script text None NotBuilt e marks h k o is = ((marks, h), subst (λ z. (lines : List Line) → IsFirstForm z lines → ⊥) e k)
-not_built script text (Some found) NotBuilt e marks h k o is = cc
-not_built script text found TooLong e marks h k o is = cc
-not_built script text found (Lexical fault) e marks h k o is = cc
+not_built script text None NotBuilt e parsed k o is = (parsed, subst (λ z. (lines : List Line) → IsFirstForm z lines → ⊥) e k)
+not_built script text (Some found) NotBuilt e parsed k o is = cc
+not_built script text found TooLong e parsed k o is = cc
+not_built script text found (Lexical fault) e parsed k o is = cc
+not_built script text found (Grammatical fault bytes) e parsed k o is = cc
+
+-- ---- tokens end with the end of the script
+
+is_end : (what : Lexeme) → lex what ≡ lexer.finish → what ≡ lexeme.End
+is_end lexeme.End e = refl
+is_end (lexeme.Name n) e = cc
+is_end (lexeme.Int n) e = cc
+is_end (lexeme.Text n) e = cc
+is_end (lexeme.Word n) e = cc
+is_end (lexeme.Sign n) e = cc
+
+last_token : (t : Token) → t.what ≡ lexeme.End → t ≡ finish t.place
+last_token t e = ap (λ (z : Lexeme). record { what = z; place = t.place }) e
+
+ends_from : (script bs : List ℕ) (ts : List Token) → LexesFrom script bs (marks ts) → EndsWithEnd ts
+ends_from script bs [] h = absurd h
+ends_from script bs (t ∷ []) h = ([], t.place, ap (λ z. z ∷ []) (last_token t (is_end t.what (ap (λ (m : Mark). m.what) h.placed))))
+ends_from script bs (t ∷ u ∷ ts) h = further (ends_from script h.0 (u ∷ ts) h.2)
+  where
+    further : EndsWithEnd (u ∷ ts) → EndsWithEnd (t ∷ u ∷ ts)
+    further e = (t ∷ e.0, e.1, ap (λ z. t ∷ z) e.2)
+
+pub tokens_end : (script : List ℕ) (ts : List Token) → Lexes script (marks ts) → EndsWithEnd ts
+tokens_end script ts h = ends_from script (past_first script) ts h

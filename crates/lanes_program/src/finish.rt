@@ -91,7 +91,7 @@ fn report<E: Sink>(alloc: Global, end: End, word: &str, errors: &mut E) -> u8
             tell(b"", errors);
             0
         }
-        End::Refused(refusal) => match refusal_line(alloc, refusal, word) {
+        End::Refused(refusal) => match refusal_line(alloc, &refusal, word) {
             Ok(line) => {
                 tell(&line, errors);
                 3

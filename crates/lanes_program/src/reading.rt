@@ -23,7 +23,7 @@ pub fn read_script<I: Source>(alloc: Global, input: &mut I) -> Result<Vec<u8>, R
     ensures cause { TellsFaults (I.faults input.old) (I.faults input.new) (IsErrOf result ReadEnd.Fault) }
 {
     let mut script = Vec::new(alloc);
-    let mut piece = [0u8; 4096];
+    let mut piece = [0u8; 32768];
     while script.len() <= SCRIPT_LIMIT {
         match input.read(&mut piece) {
             Ok(0) => return Ok(script),

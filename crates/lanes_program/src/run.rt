@@ -1,9 +1,11 @@
 //! Runs a script, and what a run ends with.
-ghost use Rattle.std.specs.Prelude.{◌≡◌, ◌≢◌, ◌≤◌, [], List, length, IfOk, IfErr};
+ghost use Rattle.std.specs.Prelude.{◌≡◌, ◌≢◌, ◌≤◌, [], List, length, IfOk, IfErr, OnOk};
 ghost use Rattle.std.specs.Io.KnownBytes.{Keeps};
 ghost use Rattle.lanes_program.specs.Finish.{RunsPart, RunsWhole};
 ghost use Rattle.lanes_program.specs.Reading.{TellsFaults};
-ghost use Rattle.lanes_program.specs.Refusals.{IsRefused, Refuses};
+ghost use Rattle.lanes_program.specs.Refusals.{IsParsed, IsRefused, IsUnparsed, Refuses};
+ghost use Rattle.lua_lexer.specs.Tokens.{Lexes};
+ghost use Rattle.lua_lexer.specs.View.{marks};
 ghost use Rattle.lanes_program.specs.Running.{RanAll, RanPart};
 ghost use Rattle.lanes_program.specs.Status.{IsEarlyEnd, MayChange};
 ghost use Rattle.first_form.specs.Outcome.{IsFirstForm};
@@ -14,12 +16,13 @@ use crate::reading::{ReadEnd, read_script};
 use crate::refusal::Refusal;
 use first_form::{Line, lines_of};
 use lanes_arena::Bytes;
-use lua_lexer::{LexFault, tokens};
+use lua_lexer::{LexFault, TokenList, token_bytes, tokens};
+use lua_parser::{ParseFault, parse};
 use outside::{Sink, Source};
 use std::alloc::Global;
 
 /// How a run ended.
-#[derive(Clone, Copy, Debug, PartialEq, Eq)]
+#[derive(Debug, Drop, PartialEq, Eq)]
 pub enum End {
     Done,
     Refused(Refusal),
@@ -82,14 +85,56 @@ fn accepted(alloc: Global, script: &Bytes) -> Result<Vec<Line>, End>
     ensures refused { (refusal : Refusal) → result ≡ Err (End.Refused refusal) → Refuses script.now refusal }
     ensures others { IfErr result IsEarlyEnd }
 {
-    match tokens(alloc, script) {
-        Ok(_) => {}
-        Err(LexFault::TooLong | LexFault::Memory) => return Err(End::Memory),
-        Err(fault) => return Err(End::Refused(Refusal::Lexical(fault))),
-    }
     match lines_of(alloc, script.as_slice()) {
         Ok(Some(lines)) => Ok(lines),
-        Ok(None) => Err(End::Refused(Refusal::NotBuilt)),
+        Ok(None) => {
+            parsed(alloc, script)?;
+            Err(End::Refused(Refusal::NotBuilt))
+        }
         Err(_) => Err(End::Memory),
+    }
+}
+
+// Nothing for a script whose tokens have a tree, or how the run of another one ends at once.
+fn parsed(alloc: Global, script: &Bytes) -> Result<(), End>
+    requires { length script.now ≤ 1048576 }
+    ensures parsed { OnOk result (IsParsed script.now) }
+    ensures refused { (refusal : Refusal) → result ≡ Err (End.Refused refusal) → Refuses script.now refusal }
+    ensures others { IfErr result IsEarlyEnd }
+{
+    match tokens(alloc, script) {
+        Ok(found) => parsed_tokens(alloc, script, found),
+        Err(LexFault::TooLong | LexFault::Memory) => Err(End::Memory),
+        Err(fault) => Err(End::Refused(Refusal::Lexical(fault))),
+    }
+}
+
+// The same for a script with these tokens.
+#[tactic(auto, using(crate::proofs::RefusalLemmas::tokens_end))]
+fn parsed_tokens(alloc: Global, script: &Bytes, tokens: TokenList) -> Result<(), End>
+    requires { Lexes script.now (marks tokens) }
+    ensures parsed { OnOk result (IsParsed script.now) }
+    ensures refused { (refusal : Refusal) → result ≡ Err (End.Refused refusal) → Refuses script.now refusal }
+    ensures others { IfErr result IsEarlyEnd }
+{
+    match parse(alloc, tokens) {
+        Ok(_) => Ok(()),
+        Err(ParseFault::Memory) => Err(End::Memory),
+        Err(fault) => Err(unparsed(alloc, script, fault)),
+    }
+}
+
+// How the run of a script with this fault ends: refused, or for want of memory.
+fn unparsed(alloc: Global, script: &Bytes, fault: ParseFault) -> End
+    requires { IsUnparsed script.now fault }
+    ensures refused { (refusal : Refusal) → result ≡ End.Refused refusal → Refuses script.now refusal }
+    ensures early { IsEarlyEnd result }
+{
+    let Some(place) = fault.place() else {
+        return End::Memory;
+    };
+    match token_bytes(alloc, script, place.at as usize) {
+        Ok(token) => End::Refused(Refusal::Grammatical(fault, token)),
+        Err(_) => End::Memory,
     }
 }

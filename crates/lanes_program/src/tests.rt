@@ -28,7 +28,7 @@ struct Case {
     calls: usize,
 }
 
-const CASES: [Case; 18] = [
+const CASES: [Case; 21] = [
     Case {
         script: FIRST,
         read: 0,
@@ -180,6 +180,33 @@ const CASES: [Case; 18] = [
         status: 3,
         output: b"",
         errors: b"lanes: t.lua:2: unfinished string\n",
+        calls: 0,
+    },
+    Case {
+        script: b"print(2/1)",
+        read: 0,
+        write: 0,
+        status: 3,
+        output: b"",
+        errors: b"lanes: t.lua:1: float operator\n",
+        calls: 0,
+    },
+    Case {
+        script: b"local x =",
+        read: 0,
+        write: 0,
+        status: 3,
+        output: b"",
+        errors: b"lanes: t.lua:1: unexpected end\n",
+        calls: 0,
+    },
+    Case {
+        script: b"x = = 1",
+        read: 0,
+        write: 0,
+        status: 3,
+        output: b"",
+        errors: b"lanes: t.lua:1: unexpected '='\n",
         calls: 0,
     },
     Case {

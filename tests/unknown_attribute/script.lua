@@ -1,0 +1,1 @@
+local file <close> = 1
