@@ -1,0 +1,11 @@
+pub mod AddsLemmas
+pub mod BindingLemmas
+pub mod BuildLemmas
+pub mod CaptureLemmas
+pub mod Layers
+pub mod OnceLemmas
+pub mod RuleLemmas
+pub mod StepLemmas
+pub mod TextLemmas
+pub mod VisibilityLemmas
+pub mod VisibleLemmas

@@ -1,0 +1,10 @@
+use Rattle.std.proofs.Common.{◌≡◌, drop}
+use Rattle.lua_scope.specs.Walk.{locals_announced}
+use Rattle.lua_scope.specs.Rules.{scope_of, locals_declared}
+use Rattle.lua_scope.proofs.walk.announce_locals.Given as goal
+
+abbrev pub invariant-loop-name : goal.invariant-loop-name
+invariant-loop-name l =
+    (l.before ≡ l.name-index)
+    × (locals_announced l.before (drop l.name-index l.names) l.survey ≡ locals_announced 0 l.names l.survey)
+    × (locals_declared l.before (drop l.name-index l.names) (scope_of l.survey) ≡ locals_declared 0 l.names (scope_of l.survey))

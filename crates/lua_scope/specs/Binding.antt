@@ -1,0 +1,218 @@
+-- Which local each name of a script refers to, by visibility (manual, section 3.5). A local is visible behind its statement to the end of
+-- its block; a parameter or a variable of a `for` in the body of its function or loop; a `local function` in its own body too, and a local
+-- of a `repeat` in its condition. A name refers to the innermost visible local of that name, which is the last that was declared.
+use Rattle.std.specs.Prelude.{◌≡◌, ℕ, suc, ◌<◌, Bool, List, [], ◌∷◌, ◌++◌, length, map, nat_lt, slice_get, IsSomeAnd, if◌then◌else◌, Option, Some, None}
+use Rattle.std.specs.Str.{bytes_eq}
+use Rattle.lua_tokens.specs.declared.place.Place.{Place}
+use Rattle.lua_tree.specs.declared.expr.ExprKind.TheOpen.{ExprKind-F, Field-F, Stat-F, Expr-F, Pair-F, Block-F, Body-F, Branch-F}
+use Rattle.lua_tree.specs.declared.expr.ExprKind.{ExprKind, fold-ExprKind}
+use Rattle.lua_tree.specs.declared.expr.Expr.{Expr, fold-Expr}
+use Rattle.lua_tree.specs.declared.expr.Pair.{Pair, fold-Pair}
+use Rattle.lua_tree.specs.declared.expr.Field.{Field, fold-Field}
+use Rattle.lua_tree.specs.declared.stat.Stat.{Stat, fold-Stat}
+use Rattle.lua_tree.specs.declared.stat.Block.{Block, fold-Block}
+use Rattle.lua_tree.specs.declared.stat.Body.{Body, fold-Body}
+use Rattle.lua_tree.specs.declared.stat.Branch.{Branch, fold-Branch}
+use Rattle.lua_tree.specs.declared.stat.Tree.{Tree}
+use Rattle.lua_scope.specs.Visible.{or_else}
+use Rattle.lua_scope.specs.Survey.{added}
+
+abbrev pub Bytes : Type 0
+Bytes = List ℕ
+
+-- the names of the locals that are visible at a place, in the order of their declarations
+abbrev pub Names : Type 0
+Names = List Bytes
+
+-- ---- a name
+
+-- the visible local at a place has a name
+abbrev pub Has : Names → ℕ → Bytes → Type 0
+Has visible at name = IsSomeAnd (slice_get visible at) (λ n. n ≡ name)
+
+-- a name refers to the visible local at a place: it has the name, and none that was declared later has
+abbrev pub RefersTo : Bytes → Names → ℕ → Type 0
+RefersTo name visible at = Has visible at name × ((later : ℕ) → at < later → ¬ Has visible later name)
+
+-- a name is a global: no visible local has it
+abbrev pub IsGlobal : Bytes → Names → Type 0
+IsGlobal name visible = (at : ℕ) → ¬ Has visible at name
+
+-- the place of the local to which a name refers, the place of the first being this
+abbrev pub innermost_from : ℕ → Bytes → Names → Option ℕ
+innermost_from at name [] = None
+innermost_from at name (n ∷ ns) = or_else (innermost_from (suc at) name ns) (if bytes_eq n name then Some at else None)
+
+abbrev pub innermost : Bytes → Names → Option ℕ
+innermost name visible = innermost_from 0 name visible
+
+-- ---- what the names of a part refer to
+
+-- The places, among the visible locals, of those that the names of a part refer to, in the order of the text; and the captures of each
+-- function body in it, in the order of their first tokens.
+pub record Named : Type 0 where
+  pub places : List ℕ
+  pub captures : List (List ℕ)
+
+abbrev pub none : Named
+none = record { places = []; captures = [] }
+
+abbrev pub joined : Named → Named → Named
+joined u v = record { places = u.places ++ v.places; captures = u.captures ++ v.captures }
+
+abbrev pub Uses : Type 0
+Uses = Names → Named
+
+abbrev pub nothing : Uses
+nothing visible = none
+
+abbrev pub both : Uses → Uses → Uses
+both f g visible = joined (f visible) (g visible)
+
+abbrev pub each : List Uses → Uses
+each [] visible = none
+each (f ∷ fs) visible = joined (f visible) (each fs visible)
+
+abbrev pub perhaps : Option Uses → Uses
+perhaps None visible = none
+perhaps (Some f) visible = f visible
+
+abbrev pub referred : Option ℕ → Named
+referred None = none
+referred (Some at) = record { places = at ∷ []; captures = [] }
+
+abbrev pub name : Bytes → Uses
+name n visible = referred (innermost n visible)
+
+-- ---- captures
+
+-- those of the first so many locals, which are those of outer functions
+abbrev pub of_outer : ℕ → List ℕ → List ℕ
+of_outer count [] = []
+of_outer count (at ∷ more) = if nat_lt at count then at ∷ of_outer count more else of_outer count more
+
+abbrev pub all_added : List ℕ → List ℕ → List ℕ
+all_added [] ns = ns
+all_added (n ∷ more) ns = all_added more (added n ns)
+
+-- each once, in the order in which they first stand
+abbrev pub once : List ℕ → List ℕ
+once ns = all_added ns []
+
+-- A function body: its captures are the outer locals that it or its inner bodies name, in the order in which they are first named.
+abbrev pub function : Names → Uses → Uses
+function params block visible =
+    let outer = of_outer (length visible) (block (visible ++ params)).places in
+    record { places = outer; captures = once outer ∷ (block (visible ++ params)).captures }
+
+-- ---- statements
+
+-- what the names of a statement or a block refer to, and the locals that are visible behind it
+pub record Part : Type 0 where
+  pub uses : Uses
+  pub locals : Names
+
+abbrev pub plain : Uses → Part
+plain u = record { uses = u; locals = [] }
+
+-- a local is visible in the statements behind its own
+abbrev pub stats : List Part → Part
+stats [] = plain nothing
+stats (p ∷ ps) = record {
+  uses = λ visible. joined (p.uses visible) ((stats ps).uses (visible ++ p.locals));
+  locals = p.locals ++ (stats ps).locals;
+}
+
+-- where these locals are visible too
+abbrev pub under : Names → Uses → Uses
+under ns u visible = u (visible ++ ns)
+
+abbrev pub variables : List (Bytes × Place) → Names
+variables ns = map (λ n. n.0) ns
+
+abbrev pub locals : List (Bytes × Bool × Place) → Names
+locals ns = map (λ n. n.0) ns
+
+abbrev pub or_nothing : Option Part → Uses
+or_nothing None visible = none
+or_nothing (Some p) visible = p.uses visible
+
+-- ---- one layer of a tree
+
+abbrev pub kind_uses : ExprKind-F Uses Uses Part Uses Uses Part Uses Uses → Uses
+kind_uses (ExprKind-F.Name n p) = name n
+kind_uses (ExprKind-F.Index two) = two
+kind_uses (ExprKind-F.«ExprKind::Call» e es) = both e (each es)
+kind_uses (ExprKind-F.Method e n es) = both e (each es)
+kind_uses (ExprKind-F.Function b) = b
+kind_uses (ExprKind-F.Binary op two) = two
+kind_uses (ExprKind-F.Unary op e) = e
+kind_uses (ExprKind-F.And two) = two
+kind_uses (ExprKind-F.Or two) = two
+kind_uses (ExprKind-F.Paren e) = e
+kind_uses (ExprKind-F.Table fs) = each fs
+kind_uses _ = nothing
+
+abbrev pub field_uses : Field-F Uses Uses Part Uses Uses Part Uses Uses → Uses
+field_uses (Field-F.Item e) = e
+field_uses (Field-F.Named n e) = e
+field_uses (Field-F.Keyed x e) = both x e
+
+abbrev pub stat_binds : Stat-F Uses Uses Part Uses Uses Part Uses Uses → Part
+stat_binds (Stat-F.Local ns es) = record { uses = each es; locals = locals ns }
+stat_binds (Stat-F.Assign ts es) = plain (both (each ts) (each es))
+stat_binds (Stat-F.«Stat::Call» e) = plain e
+stat_binds (Stat-F.Do b) = plain b.uses
+stat_binds (Stat-F.While e b) = plain (both e b.uses)
+stat_binds (Stat-F.Repeat b e) = plain (both b.uses (under b.locals e))
+stat_binds (Stat-F.If bs b) = plain (both (each bs) (or_nothing b))
+stat_binds (Stat-F.ForNum n p from to by b) = plain (both from (both to (both (perhaps by) (under (n ∷ []) b.uses))))
+stat_binds (Stat-F.ForIn ns es b) = plain (both (each es) (under (variables ns) b.uses))
+stat_binds (Stat-F.LocalFunction n p b) = record { uses = under (n ∷ []) b; locals = n ∷ [] }
+stat_binds (Stat-F.Return es) = plain (each es)
+stat_binds (Stat-F.Break p) = plain nothing
+
+abbrev pub expr_uses : Expr-F Uses Uses Part Uses Uses Part Uses Uses → Uses
+expr_uses e = e.what
+
+abbrev pub pair_uses : Pair-F Uses Uses Part Uses Uses Part Uses Uses → Uses
+pair_uses two = both two.left two.right
+
+abbrev pub block_binds : Block-F Uses Uses Part Uses Uses Part Uses Uses → Part
+block_binds b = stats b.stats
+
+abbrev pub body_uses : Body-F Uses Uses Part Uses Uses Part Uses Uses → Uses
+body_uses b = function (variables b.params) b.block.uses
+
+abbrev pub branch_uses : Branch-F Uses Uses Part Uses Uses Part Uses Uses → Uses
+branch_uses b = both b.condition b.block.uses
+
+-- ---- whole parts
+
+abbrev pub of_kind : ExprKind → Uses
+of_kind = fold-ExprKind Uses Uses Part Uses Uses Part Uses Uses kind_uses field_uses stat_binds expr_uses pair_uses block_binds body_uses branch_uses
+
+abbrev pub of_expr : Expr → Uses
+of_expr = fold-Expr Uses Uses Part Uses Uses Part Uses Uses kind_uses field_uses stat_binds expr_uses pair_uses block_binds body_uses branch_uses
+
+abbrev pub of_pair : Pair → Uses
+of_pair = fold-Pair Uses Uses Part Uses Uses Part Uses Uses kind_uses field_uses stat_binds expr_uses pair_uses block_binds body_uses branch_uses
+
+abbrev pub of_field : Field → Uses
+of_field = fold-Field Uses Uses Part Uses Uses Part Uses Uses kind_uses field_uses stat_binds expr_uses pair_uses block_binds body_uses branch_uses
+
+abbrev pub of_stat : Stat → Part
+of_stat = fold-Stat Uses Uses Part Uses Uses Part Uses Uses kind_uses field_uses stat_binds expr_uses pair_uses block_binds body_uses branch_uses
+
+abbrev pub of_block : Block → Part
+of_block = fold-Block Uses Uses Part Uses Uses Part Uses Uses kind_uses field_uses stat_binds expr_uses pair_uses block_binds body_uses branch_uses
+
+abbrev pub of_body : Body → Uses
+of_body = fold-Body Uses Uses Part Uses Uses Part Uses Uses kind_uses field_uses stat_binds expr_uses pair_uses block_binds body_uses branch_uses
+
+abbrev pub of_branch : Branch → Uses
+of_branch = fold-Branch Uses Uses Part Uses Uses Part Uses Uses kind_uses field_uses stat_binds expr_uses pair_uses block_binds body_uses branch_uses
+
+-- the captures of each body of a script, the main body first, which has none
+abbrev pub captures_of : Tree → List (List ℕ)
+captures_of tree = [] ∷ ((of_block tree.block).uses []).captures

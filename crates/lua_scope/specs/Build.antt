@@ -1,0 +1,139 @@
+-- How slots, captured locals, captures and the numbers of bodies and texts follow from what the names of a tree refer to.
+use Rattle.std.specs.Prelude.{◌≡◌, ℕ, suc, ◌+◌, ◌-◌, Bool, true, false, List, [], ◌∷◌, ◌++◌, length, take, map, slice_get, slice_set, max, ◌==◌, nat_lt, if◌then◌else◌, Option, Some, None, Result, Ok, Err}
+use Rattle.std.specs.declared.alloc.AllocError.{AllocError}
+use Rattle.lanes_arena.specs.Names.{named, number_of}
+use Rattle.lua_scope.specs.declared.local.Local.{Local}
+use Rattle.lua_scope.specs.declared.survey.Survey.{Survey}
+use Rattle.lua_scope.specs.declared.build.Builder.{Builder}
+use Rattle.lua_scope.specs.declared.build.Within.{Within}
+use Rattle.lua_scope.specs.declared.build.Opened.{Opened}
+use Rattle.lua_scope.specs.declared.program.Proto.{Proto}
+use Rattle.lua_scope.specs.declared.program.Ref.{Ref}
+use Rattle.lua_scope.specs.declared.program.Ref.TheVariants as r
+use Rattle.lua_scope.specs.declared.program.UpFrom.{UpFrom}
+use Rattle.lua_scope.specs.declared.program.UpFrom.TheVariants.{ParentCell, ParentUp}
+use Rattle.lua_scope.specs.Visible.{last_named}
+
+-- what is made of a part, and what is built then
+abbrev pub Make : Type 0 → Type 0
+Make X = Builder → X × Builder
+
+-- What a function that builds a part ensures, unless memory runs out.
+abbrev pub Makes : {X : Type 0} → X × Builder → Result X AllocError → Builder → Type 0
+Makes outcome (Ok x) new = outcome ≡ (x, new)
+Makes outcome (Err e) new = Unit {0}
+
+-- ---- what is known of the names
+
+abbrev pub or_false : Option Bool → Bool
+or_false None = false
+or_false (Some b) = b
+
+abbrev pub is_captured : Survey → ℕ → Bool
+is_captured found number = or_false (slice_get found.captured number)
+
+abbrev pub or_empty : Option (List ℕ) → List ℕ
+or_empty None = []
+or_empty (Some ns) = ns
+
+-- of the body of this number
+abbrev pub captures_of : Survey → ℕ → List ℕ
+captures_of found body = or_empty (slice_get found.bodies body)
+
+-- the place of a number in a list, or the length of the list
+abbrev pub place_in : ℕ → List ℕ → ℕ
+place_in at [] = 0
+place_in at (n ∷ ns) = if n == at then 0 else suc (place_in at ns)
+
+abbrev pub capture_place : Survey → ℕ → ℕ → ℕ
+capture_place found body at = place_in at (captures_of found body)
+
+-- ---- references
+
+abbrev pub own : Survey → ℕ → ℕ → Ref
+own found number slot = if is_captured found number then r.CellSlot slot else r.Slot slot
+
+abbrev pub own_if : Survey → Option Local → ℕ → Ref
+own_if found None slot = r.Slot 0
+own_if found (Some l) slot = own found l.number slot
+
+-- the visible local at a place: an own one by its place among those of its function
+abbrev pub local : Survey → ℕ → Builder → Ref
+local found at b =
+    if nat_lt at b.within.start then r.Up (capture_place found b.within.body at)
+    else own_if found (slice_get b.locals at) (at - b.within.start)
+
+abbrev pub text : List ℕ → Make ℕ
+text t b = (number_of b.texts t, record b { texts = named b.texts t })
+
+abbrev pub referred : Survey → List ℕ → Option ℕ → Make Ref
+referred found n (Some at) b = (local found at b, b)
+referred found n None b = (r.Global n (number_of b.texts n), record b { texts = named b.texts n })
+
+abbrev pub name : Survey → List ℕ → Make Ref
+name found n b = referred found n (last_named n b.locals) b
+
+abbrev pub up_from : Survey → Within → ℕ → UpFrom
+up_from found within at = if nat_lt at within.start then ParentUp (capture_place found within.body at) else ParentCell (at - within.start)
+
+abbrev pub ups : Survey → Within → List ℕ → List UpFrom
+ups found within captures = map (up_from found within) captures
+
+abbrev pub ups_of : Survey → Within → ℕ → List UpFrom
+ups_of found within body = ups found within (captures_of found body)
+
+-- ---- declarations
+
+abbrev pub slot_of_next : Builder → ℕ
+slot_of_next b = length b.locals - b.within.start
+
+abbrev pub declare : Survey → List ℕ → Bool → Make Ref
+declare found n constant b = (
+  own found b.declared (slot_of_next b),
+  record b {
+    locals = b.locals ++ record { name = n; constant = constant; number = b.declared } ∷ [];
+    declared = b.declared + 1;
+    within = record b.within { slots = max b.within.slots (slot_of_next b + 1) };
+  },
+)
+
+-- ---- blocks and bodies
+
+abbrev pub opened : Builder → Opened
+opened b = record { count = length b.locals; within = b.within }
+
+abbrev pub ended : Opened → Builder → Builder
+ended o b = record b { locals = take o.count b.locals }
+
+-- what stands in the place of a body that isn't finished
+abbrev pub blank : Proto
+blank = record { params = 0; cells = []; vararg = false; slots = 0; ups = []; body = []; line = 0 }
+
+abbrev pub entered : Make Opened
+entered b = (
+  opened b,
+  record b {
+    protos = b.protos ++ blank ∷ [];
+    within = record { body = length b.protos; start = length b.locals; slots = 0 };
+  },
+)
+
+abbrev pub exited : Opened → Proto → Make ℕ
+exited o p b = (
+  b.within.body,
+  record b {
+    protos = slice_set b.protos b.within.body p;
+    locals = take o.count b.locals;
+    within = o.within;
+  },
+)
+
+-- nothing is built yet
+abbrev pub start : Builder
+start = record {
+  locals = [];
+  declared = 0;
+  within = record { body = 0; start = 0; slots = 0 };
+  protos = [];
+  texts = [];
+}

@@ -1,0 +1,9 @@
+pub mod Behind
+pub mod Binding
+pub mod Build
+pub mod Resolved
+pub mod Rules
+pub mod Stands
+pub mod Survey
+pub mod Visible
+pub mod Walk

@@ -1,0 +1,292 @@
+//! What is built of a program while its tree is walked over.
+ghost use Rattle.std.specs.Prelude.{◌≡◌, ◌∷◌, [], slice_set, IfOk, OnOk, MatchOption, length};
+ghost use Rattle.lua_scope.specs.Build as spec;
+ghost use Rattle.lua_scope.specs.Build.{Makes};
+
+use crate::local::{Local, close, find};
+use crate::program::{Proto, Ref, UpFrom};
+use crate::survey::Survey;
+use crate::texts::Texts;
+use lanes_arena::{Bytes, Row};
+use sqlite_items::Items;
+use std::alloc::{AllocError, Global};
+
+/// The function body in which a place stands: its number, how many locals were visible where it begins, and how many slots it
+/// needs so far.
+#[derive(Clone, Copy, Debug)]
+pub struct Within {
+    pub body: usize,
+    pub start: usize,
+    pub slots: usize,
+}
+
+/// What was built: the visible locals, how many were declared so far, the body in which the walk stands, the bodies so far, and
+/// the texts so far.
+#[derive(Drop)]
+pub struct Builder {
+    pub locals: Items<Local>,
+    pub declared: usize,
+    pub within: Within,
+    pub protos: Items<Proto>,
+    pub texts: Texts,
+}
+
+/// Where a block or a body began: how many locals were visible there, and the body in which it stands.
+#[derive(Clone, Copy, Debug)]
+pub struct Opened {
+    pub count: usize,
+    pub within: Within,
+}
+
+/// The same number in 16 bits, if there is one.
+pub fn small(number: usize) -> Result<u16, AllocError>
+    ensures { IfOk result (λ small. small ≡ number) }
+{
+    if number < 1 << 16 {
+        Ok(number as u16)
+    } else {
+        Err(AllocError)
+    }
+}
+
+/// The same number in 32 bits, if there is one.
+pub fn narrow(number: usize) -> Result<u32, AllocError>
+    ensures { IfOk result (λ narrow. narrow ≡ number) }
+{
+    if number < 1 << 32 {
+        Ok(number as u32)
+    } else {
+        Err(AllocError)
+    }
+}
+
+/// Whether an inner body names the local of this number.
+fn is_captured(found: &Survey, number: usize) -> bool
+    ensures { result ≡ spec.is_captured found.now number }
+{
+    match found.captured.get(number) {
+        Some(captured) => *captured,
+        None => false,
+    }
+}
+
+/// The place of a number in a list, or the length of the list.
+fn place_in(at: usize, captures: &[usize]) -> usize
+    ensures { result ≡ spec.place_in at captures.now }
+{
+    let mut place = 0;
+    for other in captures {
+        if *other == at {
+            return place;
+        }
+        place += 1;
+    }
+    place
+}
+
+/// The place of a visible local among the captures of a body.
+fn capture_place(found: &Survey, body: usize, at: usize) -> usize
+    ensures { result ≡ spec.capture_place found.now body at }
+{
+    match found.bodies.get(body) {
+        Some(captures) => place_in(at, captures.as_slice()),
+        None => 0,
+    }
+}
+
+/// Where a new function finds the visible local at this place.
+fn up_from(found: &Survey, within: Within, at: usize) -> Result<UpFrom, AllocError>
+    ensures { IfOk result (λ up. up ≡ spec.up_from found.now within at) }
+{
+    if at < within.start {
+        Ok(UpFrom::ParentUp(small(capture_place(found, within.body, at))?))
+    } else {
+        Ok(UpFrom::ParentCell(small(at - within.start)?))
+    }
+}
+
+fn ups(
+    alloc: Global,
+    found: &Survey,
+    within: Within,
+    captures: &[usize],
+) -> Result<Row<UpFrom>, AllocError>
+    ensures { IfOk result (λ ups. ups ≡ spec.ups found.now within captures.now) }
+{
+    let mut ups = Vec::new(alloc);
+    for at in captures {
+        ups.push(up_from(found, within, *at)?)?;
+    }
+    Ok(Row::of(ups))
+}
+
+/// Where a body that captures these locals finds them, in the function in which the walk stands.
+pub fn ups_of(
+    alloc: Global,
+    found: &Survey,
+    within: Within,
+    body: usize,
+) -> Result<Row<UpFrom>, AllocError>
+    ensures { IfOk result (λ ups. ups ≡ spec.ups_of found.now within body) }
+{
+    match found.bodies.get(body) {
+        Some(captures) => ups(alloc, found, within, captures.as_slice()),
+        None => Ok(Row::of(Vec::new(alloc))),
+    }
+}
+
+/// What stands in the place of a body that isn't finished.
+fn blank(alloc: Global) -> Proto
+    ensures { result ≡ spec.blank }
+{
+    Proto {
+        params: 0,
+        cells: Row::of(Vec::new(alloc)),
+        vararg: false,
+        slots: 0,
+        ups: Row::of(Vec::new(alloc)),
+        body: Items::new(alloc),
+        line: 0,
+    }
+}
+
+impl Builder {
+    /// Nothing is built yet, before the main body.
+    pub fn new(alloc: Global) -> Builder
+        ensures { result ≡ spec.start }
+    {
+        Builder {
+            locals: Items::new(alloc),
+            declared: 0,
+            within: Within {
+                body: 0,
+                start: 0,
+                slots: 0,
+            },
+            protos: Items::new(alloc),
+            texts: Texts::new(alloc),
+        }
+    }
+
+    /// The place of a text.
+    pub fn text(&mut self, text: &Bytes) -> Result<u32, AllocError>
+        ensures { Makes (spec.text text.now self.old) result self.new }
+    {
+        self.texts.place(text)
+    }
+
+    /// A local of the function in which the walk stands, by the number of its declaration and its slot.
+    fn own(&self, found: &Survey, number: usize, slot: usize) -> Result<Ref, AllocError>
+        ensures { IfOk result (λ r. r ≡ spec.own found.now number slot) }
+    {
+        let slot = small(slot)?;
+        if is_captured(found, number) {
+            Ok(Ref::CellSlot(slot))
+        } else {
+            Ok(Ref::Slot(slot))
+        }
+    }
+
+    /// The visible local at this place.
+    fn local(&self, found: &Survey, at: usize) -> Result<Ref, AllocError>
+        ensures { IfOk result (λ r. r ≡ spec.local found.now at self.now) }
+    {
+        if at < self.within.start {
+            return Ok(Ref::Up(small(capture_place(found, self.within.body, at))?));
+        }
+        match self.locals.get(at) {
+            Some(local) => self.own(found, local.number, at - self.within.start),
+            None => Ok(Ref::Slot(0)),
+        }
+    }
+
+    /// What a name refers to.
+    pub fn name(&mut self, found: &Survey, name: &Bytes) -> Result<Ref, AllocError>
+        ensures { Makes (spec.name found.now name.now self.old) result self.new }
+    {
+        match find(name.as_slice(), self.locals.as_slice()) {
+            Some(at) => self.local(found, at),
+            None => {
+                let place = self.texts.place(name)?;
+                Ok(Ref::Global(name.copy()?, place))
+            }
+        }
+    }
+
+    /// A local is visible from here on.
+    pub fn declare(
+        &mut self,
+        found: &Survey,
+        name: &Bytes,
+        constant: bool,
+    ) -> Result<Ref, AllocError>
+        ensures { Makes (spec.declare found.now name.now constant self.old) result self.new }
+    {
+        let number = self.declared;
+        let Some(declared) = number.checked_add(1) else {
+            return Err(AllocError);
+        };
+        let count = self.locals.len();
+        let slot = count.saturating_sub(self.within.start);
+        let Some(slots) = slot.checked_add(1) else {
+            return Err(AllocError);
+        };
+        let local = self.own(found, number, slot)?;
+        let name = name.copy()?;
+        self.locals.push(Local {
+            name,
+            constant,
+            number,
+        })?;
+        self.declared = declared;
+        if slots > self.within.slots {
+            self.within.slots = slots;
+        }
+        Ok(local)
+    }
+
+    /// A block begins.
+    pub fn begin(&self) -> Opened
+        ensures { result ≡ spec.opened self.now }
+    {
+        Opened {
+            count: self.locals.len(),
+            within: self.within,
+        }
+    }
+
+    /// A block ends, of the body in which the walk stands.
+    pub fn end(&mut self, opened: Opened)
+        ensures { self.new ≡ spec.ended opened self.old }
+    {
+        close(&mut self.locals, opened.count);
+    }
+
+    /// A body begins. Its number is taken.
+    pub fn enter(&mut self, alloc: Global) -> Result<Opened, AllocError>
+        ensures { Makes (spec.entered self.old) result self.new }
+    {
+        let opened = self.begin();
+        let body = self.protos.len();
+        self.protos.push(blank(alloc))?;
+        self.within = Within {
+            body,
+            start: opened.count,
+            slots: 0,
+        };
+        Ok(opened)
+    }
+
+    /// A body ends, with what was made of it.
+    pub fn exit(&mut self, opened: Opened, proto: Proto) -> Result<u32, AllocError>
+        ensures { Makes (spec.exited opened proto self.old) result self.new }
+    {
+        let body = self.within.body;
+        if body < self.protos.len() {
+            self.protos.set(body, proto);
+        }
+        close(&mut self.locals, opened.count);
+        self.within = opened.within;
+        narrow(body)
+    }
+}

@@ -1,0 +1,118 @@
+//! Programs: trees in which each name is a slot, a captured local or a global.
+
+use lanes_arena::{Bytes, Row};
+use lua_tokens::Place;
+use lua_tree::{Binary, Unary};
+use sqlite_items::{Boxed, Items};
+
+/// What a name refers to. A slot is the place of a local among those of its function that are visible where it is declared.
+#[derive(Debug, Drop)]
+pub enum Ref {
+    /// A local that no inner function names.
+    Slot(u16),
+    /// A local that an inner function names.
+    CellSlot(u16),
+    /// A local of an outer function: its place among the captures of this one.
+    Up(u16),
+    /// A global name, and its place in the texts of the program.
+    Global(Bytes, u32),
+}
+
+/// Where a new function finds a local that it captures, in the function that makes it.
+#[derive(Clone, Copy, Debug, PartialEq, Eq)]
+pub enum UpFrom {
+    /// A local of that function, by its slot.
+    ParentCell(u16),
+    /// A capture of that function, by its place.
+    ParentUp(u16),
+}
+
+/// A function body: how many parameters it has, which of them inner functions name, whether it takes `...`, how many slots it
+/// needs, its captures in the order in which they are first named, its statements, and the line of its word `function`.
+#[derive(Debug, Drop)]
+pub struct Proto {
+    pub params: u16,
+    pub cells: Row<bool>,
+    pub vararg: bool,
+    pub slots: u16,
+    pub ups: Row<UpFrom>,
+    pub body: Items<RStat>,
+    pub line: u32,
+}
+
+/// A script whose names are bound: its name, its function bodies in the order of their first tokens, with the main body first,
+/// and each text that they have, once, in the order of the first places. A text is a string constant, a global name, the name
+/// of a method or of a field of a table constructor.
+#[derive(Debug, Drop)]
+pub struct Program {
+    pub name: Bytes,
+    pub protos: Items<Proto>,
+    pub texts: Items<Bytes>,
+}
+
+/// A condition of an `if` statement and the statements that it guards.
+#[cycle(stat)]
+#[derive(Debug, Drop)]
+pub struct RBranch {
+    pub condition: RExpr,
+    pub block: Items<RStat>,
+}
+
+/// A statement. It is that of the tree, with names bound, a block being its list of statements and a function body its number.
+#[cycle(stat)]
+#[derive(Debug, Drop)]
+pub enum RStat {
+    /// The locals, each with whether it is `<const>`, and their values.
+    Local(Row<(Ref, bool)>, Items<RExpr>),
+    Assign(Items<RExpr>, Items<RExpr>),
+    Call(RExpr),
+    Do(Items<RStat>),
+    While(RExpr, Items<RStat>),
+    Repeat(Items<RStat>, RExpr),
+    If(Items<RBranch>, Option<Items<RStat>>),
+    ForNum(Ref, Boxed<RExpr>, Boxed<RExpr>, Option<Boxed<RExpr>>, Items<RStat>),
+    ForIn(Row<Ref>, Items<RExpr>, Items<RStat>),
+    LocalFunction(Ref, u32),
+    Return(Items<RExpr>),
+    Break(Place),
+}
+
+/// An expression, with its line.
+#[cycle(expr)]
+#[derive(Debug, Drop)]
+pub struct RExpr {
+    pub what: RExprKind,
+    pub line: u32,
+}
+
+/// What an expression is. The number behind a text and behind the name of a method is its place in the texts of the program.
+#[cycle(expr)]
+#[derive(Debug, Drop)]
+pub enum RExprKind {
+    Nil,
+    True,
+    False,
+    Int(i64),
+    Text(Bytes, u32),
+    Dots(Place),
+    Name(Ref, Place),
+    Index(Boxed<RExpr>, Boxed<RExpr>),
+    Call(Boxed<RExpr>, Items<RExpr>),
+    Method(Boxed<RExpr>, Bytes, u32, Items<RExpr>),
+    Function(u32),
+    Binary(Binary, Boxed<RExpr>, Boxed<RExpr>),
+    Unary(Unary, Boxed<RExpr>),
+    And(Boxed<RExpr>, Boxed<RExpr>),
+    Or(Boxed<RExpr>, Boxed<RExpr>),
+    Paren(Boxed<RExpr>),
+    Table(Items<RField>),
+}
+
+/// A field of a table constructor. The number behind a name is its place in the texts of the program.
+#[cycle(expr)]
+#[derive(Debug, Drop)]
+pub enum RField {
+    Item(RExpr),
+    Named(Bytes, u32, RExpr),
+    Keyed(RExpr, RExpr),
+}
