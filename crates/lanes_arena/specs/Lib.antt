@@ -1,3 +1,4 @@
 pub mod Arena
+pub mod formers
 pub mod LendsValue
 pub mod Names

@@ -1,5 +1,5 @@
 //! Values and texts by number, with ample memory.
-use crate::{Arena, ArenaFault, Bytes, Memory, Names};
+use crate::{Arena, ArenaFault, Bytes, Memory, Names, Row};
 
 #[test]
 fn values_keep_their_numbers(rt: HostRuntime) {
@@ -56,5 +56,18 @@ fn parts_and_copies_of_a_text_are_its_bytes(rt: HostRuntime) -> Result<(), Memor
     assert!(rt; word.as_slice() == b"ocal".as_slice() && again == word);
     assert!(rt; text.part(7, 7)?.as_slice() == b"".as_slice());
     assert!(rt; text.as_slice() == b"local x".as_slice());
+    Ok(())
+}
+
+#[test]
+fn a_row_keeps_its_values_in_order(rt: HostRuntime) -> Result<(), Memory> {
+    let mut row: Row<u64> = Row::new(rt.alloc());
+    assert!(rt; row.is_empty());
+    row.push(4)?;
+    row.push(2)?;
+    assert!(rt; !row.is_empty() && row.as_slice() == [4, 2].as_slice());
+    let mut values = row.into_vec();
+    values.push(1)?;
+    assert!(rt; Row::of(values).as_slice() == [4, 2, 1].as_slice());
     Ok(())
 }

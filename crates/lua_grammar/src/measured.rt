@@ -2,9 +2,9 @@
 ghost use Rattle.std.specs.Prelude.{◌≡◌};
 ghost use Rattle.lua_grammar.specs.Expressions.{measured};
 
+use lanes_arena::Row;
 use lua_tokens::Place;
 use lua_tree::Expr;
-use sqlite_items::Items;
 
 /// A part of a tree beside its depth. That of a list is the greatest of its parts, or 0.
 #[derive(Debug, Drop)]
@@ -43,6 +43,6 @@ pub struct Prefix {
 /// The arguments of a call, and where they begin.
 #[derive(Debug, Drop)]
 pub struct Arguments {
-    pub exprs: Measured<Items<Expr>>,
+    pub exprs: Measured<Row<Expr>>,
     pub place: Place,
 }

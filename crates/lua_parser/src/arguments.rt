@@ -11,16 +11,16 @@ use crate::cursor::Tokens;
 use crate::parts::{Part, Parts};
 use crate::stop::Stop;
 use crate::{lists, nodes};
+use lanes_arena::Row;
 use lua_grammar::{Arguments, Measured};
 use lua_tokens::{Place, Sign};
 use lua_tree::{Expr, ExprKind, Stat};
-use sqlite_items::Items;
 use std::alloc::Global;
 
 impl<E, B> Parts<E, B>
 where
     E: Fn(Global, &mut Tokens, usize, Part) -> Result<Measured<Expr>, Stop> + Copy,
-    B: Fn(Global, &mut Tokens, usize) -> Result<Measured<Items<Stat>>, Stop> + Copy,
+    B: Fn(Global, &mut Tokens, usize) -> Result<Measured<Row<Stat>>, Stop> + Copy,
 {
     /// Arguments after the parenthesis at this place.
     #[tactic(auto, using(crate::proofs::ArgTurns::parens_rules))]

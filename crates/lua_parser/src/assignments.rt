@@ -10,16 +10,16 @@ use crate::lists::{only, push};
 use crate::nodes::name_leaf;
 use crate::parts::{Part, Parts};
 use crate::stop::Stop;
+use lanes_arena::Row;
 use lua_grammar::{Ends, Measured, Prefix};
 use lua_tokens::{Place, Sign};
 use lua_tree::{Expr, Stat};
-use sqlite_items::Items;
 use std::alloc::Global;
 
 impl<E, B> Parts<E, B>
 where
     E: Fn(Global, &mut Tokens, usize, Part) -> Result<Measured<Expr>, Stop> + Copy,
-    B: Fn(Global, &mut Tokens, usize) -> Result<Measured<Items<Stat>>, Stop> + Copy,
+    B: Fn(Global, &mut Tokens, usize) -> Result<Measured<Row<Stat>>, Stop> + Copy,
 {
     /// A target that goes on with this.
     #[tactic(auto, using(crate::proofs::PrefixTurns::target_from_rules))]
@@ -81,7 +81,7 @@ where
     pub fn assigned(
         &self,
         tokens: &mut Tokens,
-        found: Measured<Items<Expr>>,
+        found: Measured<Row<Expr>>,
     ) -> Result<Measured<Stat>, Stop>
         requires { Nests self.now.depth (E.pre self.now.parts) (E.post self.now.parts) (B.pre self.now.blocks) (B.post self.now.blocks) }
         ensures { Reads (over self.now.depth spec.assigned found tokens.old) result tokens.new }

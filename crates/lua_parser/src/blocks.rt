@@ -11,16 +11,16 @@ use crate::lists::{nothing, push};
 use crate::nodes::name_leaf;
 use crate::parts::{Part, Parts};
 use crate::stop::Stop;
+use lanes_arena::Row;
 use lua_grammar::{Ends, Measured, Prefix};
 use lua_tokens::{Sign, Word};
 use lua_tree::{Block, Expr, Stat};
-use sqlite_items::Items;
 use std::alloc::Global;
 
 impl<E, B> Parts<E, B>
 where
     E: Fn(Global, &mut Tokens, usize, Part) -> Result<Measured<Expr>, Stop> + Copy,
-    B: Fn(Global, &mut Tokens, usize) -> Result<Measured<Items<Stat>>, Stop> + Copy,
+    B: Fn(Global, &mut Tokens, usize) -> Result<Measured<Row<Stat>>, Stop> + Copy,
 {
     /// A `do` statement after its word.
     #[tactic(auto, unfolding(lua_grammar::specs::Statements::after_do))]
@@ -36,7 +36,7 @@ where
 
     /// The values of a `return` statement.
     #[tactic(auto, using(crate::proofs::StatTurns::returned_rules))]
-    pub fn returned(&self, tokens: &mut Tokens) -> Result<Measured<Items<Expr>>, Stop>
+    pub fn returned(&self, tokens: &mut Tokens) -> Result<Measured<Row<Expr>>, Stop>
         requires { Nests self.now.depth (E.pre self.now.parts) (E.post self.now.parts) (B.pre self.now.blocks) (B.post self.now.blocks) }
         ensures { Reads (over self.now.depth spec.returned tokens.old) result tokens.new }
     {
@@ -127,8 +127,8 @@ where
     pub fn more_stats(
         &self,
         tokens: &mut Tokens,
-        found: Measured<Items<Stat>>,
-    ) -> Result<Measured<Items<Stat>>, Stop>
+        found: Measured<Row<Stat>>,
+    ) -> Result<Measured<Row<Stat>>, Stop>
         requires { Nests self.now.depth (E.pre self.now.parts) (E.post self.now.parts) (B.pre self.now.blocks) (B.post self.now.blocks) }
         ensures { Reads (over self.now.depth spec.more_stats found tokens.old) result tokens.new }
     {
@@ -150,7 +150,7 @@ where
 
     /// The statements of a block.
     #[tactic(auto, using(crate::proofs::BlockDepths::stats_low), unfolding(lua_grammar::specs::Statements::block))]
-    pub fn block(&self, tokens: &mut Tokens) -> Result<Measured<Items<Stat>>, Stop>
+    pub fn block(&self, tokens: &mut Tokens) -> Result<Measured<Row<Stat>>, Stop>
         requires { Nests self.now.depth (E.pre self.now.parts) (E.post self.now.parts) (B.pre self.now.blocks) (B.post self.now.blocks) }
         ensures { Reads (over self.now.depth spec.block tokens.old) result tokens.new }
     {

@@ -14,13 +14,12 @@ use lanes_arena::{Bytes, Row};
 use lua_grammar::Measured;
 use lua_tokens::{Place, Sign, Word};
 use lua_tree::{Block, Body, Expr, Stat};
-use sqlite_items::Items;
 use std::alloc::Global;
 
 impl<E, B> Parts<E, B>
 where
     E: Fn(Global, &mut Tokens, usize, Part) -> Result<Measured<Expr>, Stop> + Copy,
-    B: Fn(Global, &mut Tokens, usize) -> Result<Measured<Items<Stat>>, Stop> + Copy,
+    B: Fn(Global, &mut Tokens, usize) -> Result<Measured<Row<Stat>>, Stop> + Copy,
 {
     /// The parenthesis that closes parameters after `...`.
     #[tactic(auto, unfolding(crate::specs::Steps::dots_end))]

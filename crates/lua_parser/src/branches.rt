@@ -9,16 +9,16 @@ use crate::cursor::Tokens;
 use crate::lists::{only, push};
 use crate::parts::{Part, Parts};
 use crate::stop::Stop;
+use lanes_arena::Row;
 use lua_grammar::Measured;
 use lua_tokens::Word;
 use lua_tree::{Block, Branch, Expr, Stat};
-use sqlite_items::Items;
 use std::alloc::Global;
 
 impl<E, B> Parts<E, B>
 where
     E: Fn(Global, &mut Tokens, usize, Part) -> Result<Measured<Expr>, Stop> + Copy,
-    B: Fn(Global, &mut Tokens, usize) -> Result<Measured<Items<Stat>>, Stop> + Copy,
+    B: Fn(Global, &mut Tokens, usize) -> Result<Measured<Row<Stat>>, Stop> + Copy,
 {
     /// A condition and its block.
     #[tactic(auto, unfolding(lua_grammar::specs::Statements::condition))]
@@ -44,7 +44,7 @@ where
     pub fn after_else(
         &self,
         tokens: &mut Tokens,
-        found: Measured<Items<Branch>>,
+        found: Measured<Row<Branch>>,
     ) -> Result<Measured<Stat>, Stop>
         requires { Nests self.now.depth (E.pre self.now.parts) (E.post self.now.parts) (B.pre self.now.blocks) (B.post self.now.blocks) }
         ensures { Reads (over self.now.depth spec.after_else found tokens.old) result tokens.new }
@@ -61,7 +61,7 @@ where
     pub fn more_arms(
         &self,
         tokens: &mut Tokens,
-        found: Measured<Items<Branch>>,
+        found: Measured<Row<Branch>>,
     ) -> Result<Measured<Stat>, Stop>
         requires { Nests self.now.depth (E.pre self.now.parts) (E.post self.now.parts) (B.pre self.now.blocks) (B.post self.now.blocks) }
         ensures { Reads (over self.now.depth spec.more_arms found tokens.old) result tokens.new }

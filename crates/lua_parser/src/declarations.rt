@@ -15,13 +15,12 @@ use lanes_arena::{Bytes, Row};
 use lua_grammar::Measured;
 use lua_tokens::{Place, Sign, Word};
 use lua_tree::{Expr, Stat};
-use sqlite_items::Items;
 use std::alloc::Global;
 
 impl<E, B> Parts<E, B>
 where
     E: Fn(Global, &mut Tokens, usize, Part) -> Result<Measured<Expr>, Stop> + Copy,
-    B: Fn(Global, &mut Tokens, usize) -> Result<Measured<Items<Stat>>, Stop> + Copy,
+    B: Fn(Global, &mut Tokens, usize) -> Result<Measured<Row<Stat>>, Stop> + Copy,
 {
     /// Whether a declared name has an attribute, which is `const`.
     #[tactic(auto, using(crate::proofs::LocalSteps::attrib_rules))]
@@ -58,7 +57,7 @@ where
 
     /// The values of a declaration.
     #[tactic(auto, using(crate::proofs::LocalSteps::values_rules))]
-    pub fn values(&self, tokens: &mut Tokens) -> Result<Measured<Items<Expr>>, Stop>
+    pub fn values(&self, tokens: &mut Tokens) -> Result<Measured<Row<Expr>>, Stop>
         requires { Nests self.now.depth (E.pre self.now.parts) (E.post self.now.parts) (B.pre self.now.blocks) (B.post self.now.blocks) }
         ensures { Reads (over self.now.depth spec.values tokens.old) result tokens.new }
     {

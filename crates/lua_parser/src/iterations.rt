@@ -16,7 +16,7 @@ use lanes_arena::{Bytes, Row};
 use lua_grammar::Measured;
 use lua_tokens::{Place, Sign, Word};
 use lua_tree::{Block, Expr, Stat};
-use sqlite_items::{Boxed, Items};
+use sqlite_items::Boxed;
 use std::alloc::Global;
 
 /// A numerical `for` of these parts.
@@ -27,7 +27,7 @@ fn numbers_stat(
     start: Measured<Boxed<Expr>>,
     limit: Measured<Boxed<Expr>>,
     step: Measured<Option<Boxed<Expr>>>,
-    block: Measured<Items<Stat>>,
+    block: Measured<Row<Stat>>,
 ) -> Measured<Stat>
     ensures { result ≡ numbers_stat name place start limit step block }
 {
@@ -41,7 +41,7 @@ fn numbers_stat(
 impl<E, B> Parts<E, B>
 where
     E: Fn(Global, &mut Tokens, usize, Part) -> Result<Measured<Expr>, Stop> + Copy,
-    B: Fn(Global, &mut Tokens, usize) -> Result<Measured<Items<Stat>>, Stop> + Copy,
+    B: Fn(Global, &mut Tokens, usize) -> Result<Measured<Row<Stat>>, Stop> + Copy,
 {
     /// A `while` statement after its word.
     #[tactic(auto, unfolding(lua_grammar::specs::Statements::after_while))]
@@ -74,7 +74,7 @@ where
 
     /// The block of a `for`, from `do` to `end`.
     #[tactic(auto, unfolding(crate::specs::ForBlocks::loop_block))]
-    fn loop_block(&self, tokens: &mut Tokens) -> Result<Measured<Items<Stat>>, Stop>
+    fn loop_block(&self, tokens: &mut Tokens) -> Result<Measured<Row<Stat>>, Stop>
         requires { Nests self.now.depth (E.pre self.now.parts) (E.post self.now.parts) (B.pre self.now.blocks) (B.post self.now.blocks) }
         ensures { Reads (loop_block (parts self.now.depth) tokens.old) result tokens.new }
     {
@@ -199,7 +199,7 @@ where
         &self,
         tokens: &mut Tokens,
         names: Row<(Bytes, Place)>,
-        values: Measured<Items<Expr>>,
+        values: Measured<Row<Expr>>,
     ) -> Result<Measured<Stat>, Stop>
         requires { Nests self.now.depth (E.pre self.now.parts) (E.post self.now.parts) (B.pre self.now.blocks) (B.post self.now.blocks) }
         ensures { Reads (each_block (parts self.now.depth) names values tokens.old) result tokens.new }

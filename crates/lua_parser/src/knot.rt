@@ -8,9 +8,9 @@ ghost use Rattle.lua_parser.specs.Reads.{Reads, why_of};
 use crate::cursor::Tokens;
 use crate::parts::{Part, Parts};
 use crate::stop::Stop;
+use lanes_arena::Row;
 use lua_grammar::Measured;
 use lua_tree::{Expr, Stat};
-use sqlite_items::Items;
 use std::alloc::Global;
 
 /// Why no part of a depth of 0 comes next.
@@ -62,7 +62,7 @@ pub fn nested_block(
     alloc: Global,
     tokens: &mut Tokens,
     depth: usize,
-) -> Result<Measured<Items<Stat>>, Stop>
+) -> Result<Measured<Row<Stat>>, Stop>
     requires { depth < 1000 }
     ensures { Reads ((parts depth).block tokens.old) result tokens.new }
 {

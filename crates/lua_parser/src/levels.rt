@@ -10,15 +10,15 @@ use crate::cursor::Tokens;
 use crate::nodes;
 use crate::parts::{Part, Parts};
 use crate::stop::Stop;
+use lanes_arena::Row;
 use lua_grammar::Measured;
 use lua_tree::{Expr, Stat};
-use sqlite_items::Items;
 use std::alloc::Global;
 
 impl<E, B> Parts<E, B>
 where
     E: Fn(Global, &mut Tokens, usize, Part) -> Result<Measured<Expr>, Stop> + Copy,
-    B: Fn(Global, &mut Tokens, usize) -> Result<Measured<Items<Stat>>, Stop> + Copy,
+    B: Fn(Global, &mut Tokens, usize) -> Result<Measured<Row<Stat>>, Stop> + Copy,
 {
     /// The operators from this level on that go on with an expression.
     #[inline(never)]

@@ -9,23 +9,23 @@ ghost use Rattle.lua_parser.specs.Reads.{Reads};
 use crate::cursor::Tokens;
 use crate::parts::{Part, Parts};
 use crate::stop::Stop;
+use lanes_arena::Row;
 use lua_grammar::Measured;
 use lua_tokens::Sign;
 use lua_tree::{Expr, Stat};
-use sqlite_items::Items;
 use std::alloc::{AllocError, Global};
 
 /// A list of nothing.
-pub fn nothing<T>(alloc: Global) -> Measured<Items<T>>
+pub fn nothing<T>(alloc: Global) -> Measured<Row<T>>
     ensures { result ≡ spec.nothing }
 {
-    Measured::new(Items::new(alloc), 0)
+    Measured::new(Row::new(alloc), 0)
 }
 
 /// Puts this at the end of a list. The first gets room for itself alone, since most lists have one.
 pub fn push<T: Drop>(
     alloc: Global,
-    list: &mut Measured<Items<T>>,
+    list: &mut Measured<Row<T>>,
     one: Measured<T>,
 ) -> Result<(), AllocError>
     ensures { OnOk result (list.new ≡ spec.with_one list.old one) }
@@ -34,7 +34,7 @@ pub fn push<T: Drop>(
     if list.what.is_empty() {
         let mut items = Vec::with_capacity(alloc, 1)?;
         items.push_reserved(what);
-        list.what = Items::from_vec(items);
+        list.what = Row::of(items);
     } else {
         list.what.push(what)?;
     }
@@ -43,27 +43,27 @@ pub fn push<T: Drop>(
 }
 
 /// A list of this alone.
-pub fn only<T: Drop>(alloc: Global, one: Measured<T>) -> Result<Measured<Items<T>>, AllocError>
+pub fn only<T: Drop>(alloc: Global, one: Measured<T>) -> Result<Measured<Row<T>>, AllocError>
     ensures { IfOk result (λ list. list ≡ spec.only one) }
 {
     let Measured { what, depth } = one;
     let mut list = Vec::with_capacity(alloc, 1)?;
     list.push_reserved(what);
-    Ok(Measured::new(Items::from_vec(list), depth))
+    Ok(Measured::new(Row::of(list), depth))
 }
 
 impl<E, B> Parts<E, B>
 where
     E: Fn(Global, &mut Tokens, usize, Part) -> Result<Measured<Expr>, Stop> + Copy,
-    B: Fn(Global, &mut Tokens, usize) -> Result<Measured<Items<Stat>>, Stop> + Copy,
+    B: Fn(Global, &mut Tokens, usize) -> Result<Measured<Row<Stat>>, Stop> + Copy,
 {
     /// The expressions that go on with a list.
     #[tactic(auto, using(crate::proofs::ListTurns::list_rules))]
     pub fn more_exprs(
         &self,
         tokens: &mut Tokens,
-        first: Measured<Items<Expr>>,
-    ) -> Result<Measured<Items<Expr>>, Stop>
+        first: Measured<Row<Expr>>,
+    ) -> Result<Measured<Row<Expr>>, Stop>
         requires { Nests self.now.depth (E.pre self.now.parts) (E.post self.now.parts) (B.pre self.now.blocks) (B.post self.now.blocks) }
         ensures { Reads (spec.more_exprs (parts self.now.depth) first tokens.old) result tokens.new }
     {
@@ -76,7 +76,7 @@ where
 
     /// A list of expressions.
     #[tactic(auto, using(crate::proofs::Low::exprs_low), unfolding(lua_grammar::specs::Expressions::list))]
-    pub fn list(&self, tokens: &mut Tokens) -> Result<Measured<Items<Expr>>, Stop>
+    pub fn list(&self, tokens: &mut Tokens) -> Result<Measured<Row<Expr>>, Stop>
         requires { Nests self.now.depth (E.pre self.now.parts) (E.post self.now.parts) (B.pre self.now.blocks) (B.post self.now.blocks) }
         ensures list { Reads (spec.list (parts self.now.depth) tokens.old) result tokens.new }
         ensures low { IfOk result (λ list. list.depth ≤ self.now.depth) }

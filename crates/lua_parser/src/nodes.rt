@@ -6,11 +6,11 @@ ghost use Rattle.lua_grammar.specs.Expressions as spec;
 ghost use Rattle.lua_parser.specs.Operators.{op};
 
 use crate::operator::Operator;
-use lanes_arena::Bytes;
+use lanes_arena::{Bytes, Row};
 use lua_grammar::{Arguments, Measured};
 use lua_tokens::Place;
 use lua_tree::{Body, Expr, ExprKind, Field, Pair, Unary};
-use sqlite_items::{Boxed, Items};
+use sqlite_items::Boxed;
 use std::alloc::{AllocError, Global};
 
 /// A node without parts.
@@ -186,7 +186,7 @@ pub fn function_node(
     Ok(above(ExprKind::Function(Boxed::new(alloc, what)?), place, depth))
 }
 
-pub fn table_node(place: Place, fields: Measured<Items<Field>>) -> Measured<Expr>
+pub fn table_node(place: Place, fields: Measured<Row<Field>>) -> Measured<Expr>
     requires { fields.depth < 1000 }
     ensures { result ≡ spec.table_node place fields }
 {

@@ -15,7 +15,6 @@ use lanes_arena::Row;
 use lua_grammar::Measured;
 use lua_tokens::{Sign, Word};
 use lua_tree::{Expr, Stat};
-use sqlite_items::Items;
 use std::alloc::Global;
 
 /// The level of the operands of unary operators.
@@ -24,7 +23,7 @@ const UNARY: u8 = 11;
 impl<E, B> Parts<E, B>
 where
     E: Fn(Global, &mut Tokens, usize, Part) -> Result<Measured<Expr>, Stop> + Copy,
-    B: Fn(Global, &mut Tokens, usize) -> Result<Measured<Items<Stat>>, Stop> + Copy,
+    B: Fn(Global, &mut Tokens, usize) -> Result<Measured<Row<Stat>>, Stop> + Copy,
 {
     /// An expression without a binary operator.
     #[tactic(auto, using(crate::proofs::OperandTurns::operand_rules))]

@@ -7,10 +7,10 @@ ghost use Rattle.lua_parser.specs.Reads.{Reads};
 
 use crate::cursor::Tokens;
 use crate::stop::Stop;
+use lanes_arena::Row;
 use lua_grammar::Measured;
 use lua_tokens::Place;
 use lua_tree::{Expr, Stat};
-use sqlite_items::Items;
 use std::alloc::Global;
 
 /// A part that is an expression.
@@ -37,7 +37,7 @@ pub struct Parts<E, B> {
 impl<E, B> Parts<E, B>
 where
     E: Fn(Global, &mut Tokens, usize, Part) -> Result<Measured<Expr>, Stop> + Copy,
-    B: Fn(Global, &mut Tokens, usize) -> Result<Measured<Items<Stat>>, Stop> + Copy,
+    B: Fn(Global, &mut Tokens, usize) -> Result<Measured<Row<Stat>>, Stop> + Copy,
 {
     /// Those of a depth less by this, or of 0.
     pub fn below(&self, less: usize) -> Parts<E, B>
@@ -82,7 +82,7 @@ where
     }
 
     /// The statements of a block.
-    pub fn inner_block(&self, tokens: &mut Tokens) -> Result<Measured<Items<Stat>>, Stop>
+    pub fn inner_block(&self, tokens: &mut Tokens) -> Result<Measured<Row<Stat>>, Stop>
         requires { Nests self.now.depth (E.pre self.now.parts) (E.post self.now.parts) (B.pre self.now.blocks) (B.post self.now.blocks) }
         ensures { Reads ((parts self.now.depth).block tokens.old) result tokens.new }
     {

@@ -5,9 +5,9 @@ ghost use Rattle.lua_parser.specs.Reads.{Reads};
 use crate::cursor::Tokens;
 use crate::knot::nested_block;
 use crate::stop::Stop;
+use lanes_arena::Row;
 use lua_grammar::Measured;
 use lua_tree::{Block, Stat, Tree};
-use sqlite_items::Items;
 use std::alloc::Global;
 
 /// The greatest depth of a script.
@@ -24,7 +24,7 @@ pub fn script(alloc: Global, tokens: &mut Tokens) -> Result<Tree, Stop>
 
 /// The end of a script, behind its block.
 #[tactic(auto, using(crate::proofs::ScriptEnds::whole_rules))]
-fn whole(tokens: &mut Tokens, block: Measured<Items<Stat>>) -> Result<Tree, Stop>
+fn whole(tokens: &mut Tokens, block: Measured<Row<Stat>>) -> Result<Tree, Stop>
     ensures { Reads (spec.whole block tokens.old) result tokens.new }
 {
     if tokens.end().is_none() {

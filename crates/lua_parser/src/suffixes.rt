@@ -11,16 +11,16 @@ use crate::cursor::Tokens;
 use crate::nodes;
 use crate::parts::{Part, Parts};
 use crate::stop::Stop;
+use lanes_arena::Row;
 use lua_grammar::Measured;
 use lua_tokens::Sign;
 use lua_tree::{Expr, Stat};
-use sqlite_items::Items;
 use std::alloc::Global;
 
 impl<E, B> Parts<E, B>
 where
     E: Fn(Global, &mut Tokens, usize, Part) -> Result<Measured<Expr>, Stop> + Copy,
-    B: Fn(Global, &mut Tokens, usize) -> Result<Measured<Items<Stat>>, Stop> + Copy,
+    B: Fn(Global, &mut Tokens, usize) -> Result<Measured<Row<Stat>>, Stop> + Copy,
 {
     /// An expression in brackets after the bracket.
     #[tactic(auto, using(crate::proofs::Low::first_low), unfolding(crate::specs::Steps::bracketed))]

@@ -11,11 +11,10 @@ use crate::cursor::Tokens;
 use crate::parts::{Part, Parts};
 use crate::stop::Stop;
 use crate::{lists, nodes};
-use lanes_arena::Bytes;
+use lanes_arena::{Bytes, Row};
 use lua_grammar::Measured;
 use lua_tokens::{Place, Sign};
 use lua_tree::{Expr, Field, Stat};
-use sqlite_items::Items;
 use std::alloc::Global;
 
 /// What follows a field: whether another one may come after it, or the table ends.
@@ -38,7 +37,7 @@ fn separated(tokens: &mut Tokens) -> Result<bool, Stop>
 impl<E, B> Parts<E, B>
 where
     E: Fn(Global, &mut Tokens, usize, Part) -> Result<Measured<Expr>, Stop> + Copy,
-    B: Fn(Global, &mut Tokens, usize) -> Result<Measured<Items<Stat>>, Stop> + Copy,
+    B: Fn(Global, &mut Tokens, usize) -> Result<Measured<Row<Stat>>, Stop> + Copy,
 {
     /// A field after the name that begins it.
     #[tactic(auto, using(crate::proofs::FieldTurns::name_rules, crate::proofs::Low::first_low, crate::proofs::Low::rest_low))]

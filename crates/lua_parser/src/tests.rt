@@ -357,16 +357,16 @@ impl<'a> Shown<'a> {
             ExprKind::Function(_) => self.put(b"function"),
             ExprKind::Call(_, arguments) => {
                 self.put(b"call")?;
-                self.put_count(alloc, arguments.get().len())
+                self.put_count(alloc, arguments.get().as_slice().len())
             }
             ExprKind::Method(_, name, arguments) => {
                 self.put(b"method-")?;
                 self.put(name.get().as_slice())?;
-                self.put_count(alloc, arguments.get().len())
+                self.put_count(alloc, arguments.get().as_slice().len())
             }
             ExprKind::Table(fields) => {
                 self.put(b"table")?;
-                self.put_count(alloc, fields.len())
+                self.put_count(alloc, fields.as_slice().len())
             }
         }
     }
@@ -431,7 +431,7 @@ impl<'a> Shown<'a> {
                 self.put(b"local")?;
                 self.put_count(alloc, names.as_slice().len())?;
                 self.put(b",")?;
-                self.put_count(alloc, values.len())?;
+                self.put_count(alloc, values.as_slice().len())?;
                 for (name, constant, place) in names.as_slice() {
                     self.put(if *constant { b" const-" } else { b" " })?;
                     self.put_name(alloc, name, *place)?;
@@ -440,9 +440,9 @@ impl<'a> Shown<'a> {
             }
             Stat::Assign(targets, values) => {
                 self.put(b"set")?;
-                self.put_count(alloc, targets.len())?;
+                self.put_count(alloc, targets.as_slice().len())?;
                 self.put(b",")?;
-                self.put_count(alloc, values.len())?;
+                self.put_count(alloc, values.as_slice().len())?;
                 self.push_exprs(values.as_slice())?;
                 self.push_exprs(targets.as_slice())?;
             }
@@ -452,7 +452,7 @@ impl<'a> Shown<'a> {
             }
             Stat::Return(values) => {
                 self.put(b"return")?;
-                self.put_count(alloc, values.len())?;
+                self.put_count(alloc, values.as_slice().len())?;
                 self.push_exprs(values.as_slice())?;
             }
             Stat::Break(place) => {
@@ -488,7 +488,7 @@ impl<'a> Shown<'a> {
             }
             Stat::If(branches, otherwise) => {
                 self.put(b"if")?;
-                self.put_count(alloc, branches.len())?;
+                self.put_count(alloc, branches.as_slice().len())?;
                 if let Some(block) = otherwise {
                     self.put(b"-else")?;
                     self.push(Piece::Block(block))?;
@@ -513,7 +513,7 @@ impl<'a> Shown<'a> {
                 self.put(b"forin")?;
                 self.put_count(alloc, names.as_slice().len())?;
                 self.put(b",")?;
-                self.put_count(alloc, values.len())?;
+                self.put_count(alloc, values.as_slice().len())?;
                 self.put_names(alloc, names.as_slice())?;
                 self.push(Piece::Block(block))?;
                 self.push_exprs(values.as_slice())
@@ -524,7 +524,7 @@ impl<'a> Shown<'a> {
 
     fn block(&mut self, alloc: Global, block: &'a Block) -> Result<(), AllocError> {
         self.put(b"block")?;
-        self.put_count(alloc, block.stats.len())?;
+        self.put_count(alloc, block.stats.as_slice().len())?;
         self.put(b" ")?;
         self.push_stats(block)
     }

@@ -2,9 +2,9 @@
 
 use crate::operator::{Binary, Unary};
 use crate::stat::Body;
-use lanes_arena::Bytes;
+use lanes_arena::{Bytes, Row};
 use lua_tokens::Place;
-use sqlite_items::{Boxed, Items};
+use sqlite_items::Boxed;
 
 /// An expression (manual, section 3.4). The line is that of its operator, which of an index is its `.` or `[`; of a call that of
 /// the parenthesis, brace or text with which its arguments begin; of a function that of its word `function`; of any other that
@@ -31,9 +31,9 @@ pub enum ExprKind {
     /// The object and the key.
     Index(Boxed<Pair>),
     /// The function and its arguments.
-    Call(Boxed<Expr>, Boxed<Items<Expr>>),
+    Call(Boxed<Expr>, Boxed<Row<Expr>>),
     /// The object, the method's name and its arguments.
-    Method(Boxed<Expr>, Boxed<Bytes>, Boxed<Items<Expr>>),
+    Method(Boxed<Expr>, Boxed<Bytes>, Boxed<Row<Expr>>),
     Function(Boxed<Body>),
     Binary(Binary, Boxed<Pair>),
     Unary(Unary, Boxed<Expr>),
@@ -41,7 +41,7 @@ pub enum ExprKind {
     Or(Boxed<Pair>),
     /// An expression in parentheses, which gives one value.
     Paren(Boxed<Expr>),
-    Table(Items<Field>),
+    Table(Row<Field>),
 }
 
 /// The two parts of an expression, which share a box. What is rare lies in boxes of its own, so that an expression has 40 bytes.

@@ -3,7 +3,7 @@
 use crate::expr::Expr;
 use lanes_arena::{Bytes, Row};
 use lua_tokens::Place;
-use sqlite_items::{Boxed, Items};
+use sqlite_items::Boxed;
 
 /// A script: its main block (manual, section 3.3.2).
 #[derive(Debug, Drop)]
@@ -15,7 +15,7 @@ pub struct Tree {
 #[cycle(tree)]
 #[derive(Debug, Drop)]
 pub struct Block {
-    pub stats: Items<Stat>,
+    pub stats: Row<Stat>,
 }
 
 /// A condition of an `if` statement and the block that it guards (manual, section 3.3.4).
@@ -26,14 +26,14 @@ pub struct Branch {
     pub block: Block,
 }
 
-/// What a function does (manual, section 3.4.11): its parameters, whether `...` is the last of them, its block, and the line of
+/// What a function does (manual, section 3.4.11): its parameters, its block, whether `...` is the last parameter, and the line of
 /// its word `function`. A function that is declared with a `:` has a first parameter `self`, at the place of the method's name.
 #[cycle(tree)]
 #[derive(Debug, Drop)]
 pub struct Body {
     pub params: Row<(Bytes, Place)>,
-    pub vararg: bool,
     pub block: Block,
+    pub vararg: bool,
     pub line: u32,
 }
 
@@ -42,20 +42,20 @@ pub struct Body {
 #[derive(Debug, Drop)]
 pub enum Stat {
     /// The names, each with whether it is `<const>`, and their values.
-    Local(Row<(Bytes, bool, Place)>, Items<Expr>),
+    Local(Row<(Bytes, bool, Place)>, Row<Expr>),
     /// The targets and their values. A `function` statement is one too.
-    Assign(Items<Expr>, Items<Expr>),
+    Assign(Row<Expr>, Row<Expr>),
     Call(Expr),
     Do(Block),
     While(Expr, Block),
     Repeat(Block, Expr),
     /// A branch for `if` and for each `elseif`, and the block of `else`.
-    If(Items<Branch>, Option<Block>),
+    If(Row<Branch>, Option<Block>),
     /// The variable, the start, the limit, the step and the block.
     ForNum(Bytes, Place, Boxed<Expr>, Boxed<Expr>, Option<Boxed<Expr>>, Block),
     /// The variables, the values that give the iterator, and the block.
-    ForIn(Row<(Bytes, Place)>, Items<Expr>, Block),
+    ForIn(Row<(Bytes, Place)>, Row<Expr>, Block),
     LocalFunction(Bytes, Place, Body),
-    Return(Items<Expr>),
+    Return(Row<Expr>),
     Break(Place),
 }
