@@ -1,7 +1,6 @@
 -- Lists of parts that are built one after another.
-use Rattle.std.proofs.Common.{◌≡◌, ◌∙◌, refl, ap, sym, List, [], ◌∷◌, ◌++◌}
+use Rattle.std.proofs.Common.{◌≡◌, List, [], ◌∷◌, ◌++◌}
 use Rattle.std.proofs.lemmas.List.{append_assoc, append-nil}
-use Rattle.lua_scope.specs.declared.build.Builder.{Builder}
 
 -- one more was made
 pub one_more : {X : Type 0} (made rest : List X) (x : X) → (made ++ x ∷ []) ++ rest ≡ made ++ (x ∷ rest)

@@ -1,5 +1,6 @@
--- The captures of a script are those that visibility gives: by induction over its tree.
-use Rattle.std.proofs.Common.{◌≡◌, ap, subst, Bool, true, false, List, [], ◌∷◌, ◌++◌, map, Option, Some, None, Result, Ok, Err, IfOk}
+-- What the names of a script refer to, its captures and its cells are those that visibility gives: by induction over its tree.
+use Rattle.std.proofs.Common.{◌≡◌, ◌∙◌, ap, subst, Bool, true, false, List, [], ◌∷◌, ◌++◌, map, Option, Some, None, Result, Ok, Err}
+use Rattle.std.proofs.lemmas.List.{append-nil}
 use Rattle.lua_tokens.specs.declared.place.Place.{Place}
 use Rattle.lua_tree.specs.declared.expr.Expr.{Expr, roll-Expr}
 use Rattle.lua_tree.specs.declared.expr.Pair.{Pair, roll-Pair}
@@ -12,16 +13,19 @@ use Rattle.lua_tree.specs.declared.stat.Body.{Body, roll-Body}
 use Rattle.lua_tree.specs.declared.stat.Block.{Block, roll-Block}
 use Rattle.lua_tree.specs.declared.stat.Branch.{Branch, roll-Branch}
 use Rattle.lua_tree.specs.declared.stat.Tree.{Tree}
+use Rattle.lua_scope.specs.declared.binding.Bindings.{Bindings}
 use Rattle.lua_scope.specs.declared.fault.ScopeFault.{ScopeFault}
 use Rattle.lua_scope.specs.declared.survey.Survey.{Survey}
 use Rattle.lua_scope.specs.Survey.{Step, announced, declared, start}
 use Rattle.lua_scope.specs.Walk as walk
 use Rattle.lua_scope.specs.Walk.{each_of, perhaps_of, all_announced, all_declared, locals_announced, locals_declared, closed, nested, nested_if, looped, left, kind_step, field_step, stat_step, expr_step, pair_step, block_step, body_step, branch_step, in_expr, in_pair, in_field, in_stat, in_block, in_body, in_branch, in_tree}
-use Rattle.lua_scope.specs.Binding.{Bytes, none, Uses, nothing, both, each, perhaps, Part, stats, under, variables, locals, kind_uses, field_uses, stat_binds, expr_uses, pair_uses, block_binds, body_uses, branch_uses, of_kind, of_expr, of_pair, of_field, of_stat, of_block, of_body, of_branch, captures_of}
+use Rattle.lua_scope.specs.Binding as binding
+use Rattle.lua_scope.specs.Binding.{Bytes, Uses, nothing, both, each, perhaps, Part, stats, under, declaring, variables, locals, kind_uses, field_uses, stat_binds, expr_uses, pair_uses, block_binds, body_uses, branch_uses, of_kind, of_expr, of_pair, of_field, of_stat, of_block, of_body, of_branch, bindings_of}
 use Rattle.lua_scope.proofs.Layers.{KindLayer, FieldLayer, StatLayer, ExprLayer, PairLayer, BlockLayer, BodyLayer, BranchLayer}
 use Rattle.lua_scope.proofs.AddsLemmas.{Such}
 use Rattle.std.specs.Option.{option_map}
-use Rattle.lua_scope.proofs.StepLemmas.{names, After, grows_none, after_both, Finds, Binds, finds_from, binds_from, nothing_found, finds_under, binds_under, both_found, each_found, each_of_found, name_found, dots_found, break_found, announced_stays, locals_announced_stays, after_stays, one_declared, variables_declared, named_declared, nested_found, looped_found, body_found, joined_none, announced_found, all_announced_found, repeat_found, loop_found}
+use Rattle.lua_scope.proofs.CellLemmas.{cells_found}
+use Rattle.lua_scope.proofs.StepLemmas.{names, After, grows_none, after_both, Finds, Binds, finds_from, binds_from, nothing_found, finds_under, binds_under, both_found, each_found, each_of_found, name_found, dots_found, break_found, announced_stays, locals_announced_stays, after_stays, one_declared, variables_declared, named_declared, nested_found, looped_found, body_found, announced_found, all_announced_found, repeat_found, loop_found}
 
 abbrev in_kind : ExprKind → Bool → Step
 in_kind = fold-ExprKind (Bool → Step) Step Step (Bool → Step) Step Step Step Step kind_step field_step stat_step expr_step pair_step block_step body_step branch_step
@@ -234,27 +238,27 @@ body_case y = body_from (body_parts y) (body_found y.params y.vararg (of_block y
 guarded_found : (e : Such Expr ExprFinds) (p : Uses) (f : Step) → Finds p f → Finds (both (of_expr e.0) p) (walk.then (in_expr e.0 false) f)
 guarded_found e p f h = both_found (of_expr e.0) p (in_expr e.0 false) f (e.1 false) h
 
-closed_found : (b : Such Block BlockFinds) → Finds (of_block b.0).uses (nested (in_block b.0))
+closed_found : (b : Such Block BlockFinds) → Finds (binding.closed (of_block b.0).uses) (nested (in_block b.0))
 closed_found b = nested_found (of_block b.0) (in_block b.0) b.1
 
 branch_case : (y : BranchKnown) → BranchFinds (roll-Branch (branch_parts y))
-branch_case y = branch_from (branch_parts y) (guarded_found y.condition (of_block y.block.0).uses (nested (in_block y.block.0)) (closed_found y.block))
+branch_case y = branch_from (branch_parts y) (guarded_found y.condition (binding.closed (of_block y.block.0).uses) (nested (in_block y.block.0)) (closed_found y.block))
 
 -- ---- statements
 
-local_found : (ns : List (Bytes × Bool × Place)) (p : Uses) (f : Step) → Finds p f → Binds (record { uses = p; locals = locals ns }) (walk.then (locals_announced 0 ns) (walk.then f (locals_declared ns)))
+local_found : (ns : List (Bytes × Bool × Place)) (p : Uses) (f : Step) → Finds p f → Binds (record { uses = both p (binding.declared (locals ns)); locals = locals ns }) (walk.then (locals_announced 0 ns) (walk.then f (locals_declared ns)))
 local_found ns p f h s =
-    after_stays s (p (names s)) (locals ns) (locals_announced 0 ns s) (walk.then f (locals_declared ns)) (locals_announced_stays 0 ns s)
-    (subst (λ u. After s u (locals ns) (walk.then f (locals_declared ns) s)) (joined_none (p (names s)))
-    (after_both s (p (names s)) none [] (locals ns) (f s) (locals_declared ns) (h s) (λ t e. named_declared ns t)))
+    after_stays s (both p (binding.declared (locals ns)) (names s)) (locals ns) (locals_announced 0 ns s) (walk.then f (locals_declared ns)) (locals_announced_stays 0 ns s)
+    (after_both s (p (names s)) (binding.declared (locals ns) (names s)) [] (locals ns) (f s) (locals_declared ns) (h s)
+    (λ t e. subst (λ visible. After t (binding.declared (locals ns) visible) (locals ns) (locals_declared ns t)) (e ∙ append-nil (names s)) (named_declared ns t)))
 
-local_function_found : (n : Bytes) (p : Place) (u : Uses) (f : Step) → Finds u f → Binds (record { uses = under (n ∷ []) u; locals = n ∷ [] }) (walk.then (announced n p 0) (walk.then (declared n false) f))
+local_function_found : (n : Bytes) (p : Place) (u : Uses) (f : Step) → Finds u f → Binds (record { uses = declaring (n ∷ []) u; locals = n ∷ [] }) (walk.then (announced n p 0) (walk.then (declared n false) f))
 local_function_found n p u f h s =
-    after_stays s (under (n ∷ []) u (names s)) (n ∷ []) (announced n p 0 s) (walk.then (declared n false) f) (announced_stays n p 0 s)
-    (after_both s none (under (n ∷ []) u (names s)) (n ∷ []) [] (declared n false s) f (one_declared n false s) (λ t e. finds_under (n ∷ []) u s t f e h))
+    after_stays s (declaring (n ∷ []) u (names s)) (n ∷ []) (announced n p 0 s) (walk.then (declared n false) f) (announced_stays n p 0 s)
+    (after_both s (binding.declared (n ∷ []) (names s)) (under (n ∷ []) u (names s)) (n ∷ []) [] (declared n false s) f (one_declared n false s) (λ t e. finds_under (n ∷ []) u s t f e h))
 
 abbrev counted_uses : Bytes → Block → Uses
-counted_uses n b = under (n ∷ []) (of_block b).uses
+counted_uses n b = binding.closed (declaring (n ∷ []) (of_block b).uses)
 
 abbrev counted_step : Bytes → Block → Step
 counted_step n b = looped (walk.then (declared n false) (in_block b))
@@ -274,9 +278,9 @@ for_found n p from to u f h =
     (guarded_found from (both (of_expr to.0) u) (walk.then (in_expr to.0 false) f) (guarded_found to u f h))
 
 for_in_found : (ns : List (Bytes × Place)) (p : Uses) (f : Step) (b : Such Block BlockFinds) → Finds p f
-    → Finds (both p (under (variables ns) (of_block b.0).uses)) (walk.then (all_announced 0 ns) (walk.then f (looped (walk.then (all_declared ns) (in_block b.0)))))
+    → Finds (both p (binding.closed (declaring (variables ns) (of_block b.0).uses))) (walk.then (all_announced 0 ns) (walk.then f (looped (walk.then (all_declared ns) (in_block b.0)))))
 for_in_found ns p f b h =
-    let q : Uses = under (variables ns) (of_block b.0).uses in
+    let q : Uses = binding.closed (declaring (variables ns) (of_block b.0).uses) in
     let g : Step = looped (walk.then (all_declared ns) (in_block b.0)) in
     all_announced_found 0 ns (both p q) (walk.then f g) (both_found p q f g h (loop_found (variables ns) (of_block b.0) (all_declared ns) (in_block b.0) (variables_declared ns) b.1))
 
@@ -287,12 +291,12 @@ stat_case (Stat-F.«Stat::Call» e) = stat_from (Stat-F.«Stat::Call» e.0) (e.1
 stat_case (Stat-F.Do b) = stat_from (Stat-F.Do b.0) (closed_found b)
 stat_case (Stat-F.While e b) =
     let f : Step = walk.then (all_declared []) (in_block b.0) in
-    stat_from (Stat-F.While e.0 b.0) (guarded_found e (of_block b.0).uses (looped f) (looped_found (of_block b.0) f b.1))
+    stat_from (Stat-F.While e.0 b.0) (guarded_found e (binding.closed (of_block b.0).uses) (looped f) (looped_found (of_block b.0) f b.1))
 stat_case (Stat-F.Repeat b e) = stat_from (Stat-F.Repeat b.0 e.0) (repeat_found (of_block b.0) (in_block b.0) (of_expr e.0) (in_expr e.0 false) b.1 (e.1 false))
 stat_case (Stat-F.If bs None) =
     stat_from (Stat-F.If (map (λ p. p.0) bs) None) (both_found (each (map of_branch (map (λ p. p.0) bs))) nothing (walk.each (map in_branch (map (λ p. p.0) bs))) walk.nothing (each_found of_branch in_branch bs) nothing_found)
 stat_case (Stat-F.If bs (Some b)) =
-    stat_from (Stat-F.If (map (λ p. p.0) bs) (Some b.0)) (both_found (each (map of_branch (map (λ p. p.0) bs))) (of_block b.0).uses (walk.each (map in_branch (map (λ p. p.0) bs))) (nested (in_block b.0)) (each_found of_branch in_branch bs) (closed_found b))
+    stat_from (Stat-F.If (map (λ p. p.0) bs) (Some b.0)) (both_found (each (map of_branch (map (λ p. p.0) bs))) (binding.closed (of_block b.0).uses) (walk.each (map in_branch (map (λ p. p.0) bs))) (nested (in_block b.0)) (each_found of_branch in_branch bs) (closed_found b))
 stat_case (Stat-F.ForNum n p from to None b) =
     let f : Step = walk.then walk.nothing (counted_step n b.0) in
     stat_from (Stat-F.ForNum n p from.0 to.0 None b.0) (for_found n p from to (both nothing (counted_uses n b.0)) f (stepped_found n None b))
@@ -319,9 +323,12 @@ block_binds_found = ind-Block KindFinds FieldFinds StatFinds ExprFinds PairFinds
 
 -- ---- a script
 
-pub captures_are : (tree : Tree) → IfOk (in_tree tree) (λ found. found.bodies ≡ captures_of tree)
-captures_are tree = by (in_tree tree) (block_binds_found tree.block start)
+-- what the walk has found of a script
+pub bound : (tree : Tree) (found : Survey) → in_tree tree ≡ Ok found →
+    ◌≡◌ {A = Bindings} (record { names = found.names; captured = found.captured; bodies = found.bodies }) (bindings_of tree)
+bound tree found e = by (in_tree tree) (block_binds_found tree.block start) e
   where
-    by : (r : Result Survey ScopeFault) → After start ((of_block tree.block).uses []) (of_block tree.block).locals r → IfOk r (λ found. found.bodies ≡ captures_of tree)
-    by (Ok t) h = h.3
-    by (Err f) h = tt
+    by : (r : Result Survey ScopeFault) → After start ((of_block tree.block).uses []) (of_block tree.block).locals r → r ≡ Ok found →
+        ◌≡◌ {A = Bindings} (record { names = found.names; captured = found.captured; bodies = found.bodies }) (bindings_of tree)
+    by (Ok t) h e = cc (h.3, h.4, cells_found t.locals t.captured ((of_block tree.block).uses []) h.5, e)
+    by (Err f) h e = cc

@@ -2,10 +2,9 @@ pub mod AddsLemmas
 pub mod BindingLemmas
 pub mod BuildLemmas
 pub mod CaptureLemmas
+pub mod CellLemmas
 pub mod Layers
 pub mod OnceLemmas
 pub mod RuleLemmas
 pub mod StepLemmas
-pub mod TextLemmas
-pub mod VisibilityLemmas
 pub mod VisibleLemmas

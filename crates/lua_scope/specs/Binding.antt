@@ -1,7 +1,9 @@
--- Which local each name of a script refers to, by visibility (manual, section 3.5). A local is visible behind its statement to the end of
--- its block; a parameter or a variable of a `for` in the body of its function or loop; a `local function` in its own body too, and a local
--- of a `repeat` in its condition. A name refers to the innermost visible local of that name, which is the last that was declared.
-use Rattle.std.specs.Prelude.{◌≡◌, ℕ, suc, ◌<◌, Bool, List, [], ◌∷◌, ◌++◌, length, map, nat_lt, slice_get, IsSomeAnd, if◌then◌else◌, Option, Some, None}
+-- Which local each name of a script refers to, by visibility (manual, section 3.5). A local is visible behind its statement to the
+-- end of its block; a parameter or a variable of a `for` in the body of its function or loop; a `local function` in its own body
+-- too, and a local of a `repeat` in its condition. A name refers to the innermost visible local of that name, which is the last that
+-- was declared. A local is a cell where a function body in its scope names it, or a body inside that one.
+use Rattle.std.specs.Prelude.{◌≡◌, ℕ, suc, ◌<◌, Bool, List, [], ◌∷◌, ◌++◌, length, map, nat_eq, nat_lt, slice_get, IsSomeAnd, if◌then◌else◌, Option, Some, None}
+use Rattle.std.specs.List.{list_any}
 use Rattle.std.specs.Str.{bytes_eq}
 use Rattle.lua_tokens.specs.declared.place.Place.{Place}
 use Rattle.lua_tree.specs.declared.expr.ExprKind.TheOpen.{ExprKind-F, Field-F, Stat-F, Expr-F, Pair-F, Block-F, Body-F, Branch-F}
@@ -14,6 +16,7 @@ use Rattle.lua_tree.specs.declared.stat.Block.{Block, fold-Block}
 use Rattle.lua_tree.specs.declared.stat.Body.{Body, fold-Body}
 use Rattle.lua_tree.specs.declared.stat.Branch.{Branch, fold-Branch}
 use Rattle.lua_tree.specs.declared.stat.Tree.{Tree}
+use Rattle.lua_scope.specs.declared.binding.Bindings.{Bindings}
 use Rattle.lua_scope.specs.Visible.{or_else}
 use Rattle.lua_scope.specs.Survey.{added}
 
@@ -48,17 +51,31 @@ innermost name visible = innermost_from 0 name visible
 
 -- ---- what the names of a part refer to
 
--- The places, among the visible locals, of those that the names of a part refer to, in the order of the text; and the captures of each
--- function body in it, in the order of their first tokens.
+-- What each name of a part refers to, those in function bodies too, in the order of the text: the place of a local among those that
+-- are visible there, or none for a global. The places of these locals, but for the own ones of function bodies in the part. The
+-- captures of each function body in it, in the order of their first tokens. And of each local that it declares, in the order in
+-- which they become visible, whether it is a cell, given the captures of the bodies behind the part, up to the end of its block.
 pub record Named : Type 0 where
+  pub names : List (Option ℕ)
   pub places : List ℕ
   pub captures : List (List ℕ)
+  pub cells : List (List ℕ) → List Bool
 
 abbrev pub none : Named
-none = record { places = []; captures = [] }
+none = record { names = []; places = []; captures = []; cells = λ behind. [] }
 
+-- one part behind the other: those locals of the first whose block has not ended are visible in the second
 abbrev pub joined : Named → Named → Named
-joined u v = record { places = u.places ++ v.places; captures = u.captures ++ v.captures }
+joined u v = record {
+  names = u.names ++ v.names;
+  places = u.places ++ v.places;
+  captures = u.captures ++ v.captures;
+  cells = λ behind. u.cells (v.captures ++ behind) ++ v.cells behind;
+}
+
+-- a block, behind which its locals aren't visible
+abbrev pub ended : Named → Named
+ended u = record { names = u.names; places = u.places; captures = u.captures; cells = λ behind. u.cells [] }
 
 abbrev pub Uses : Type 0
 Uses = Names → Named
@@ -78,8 +95,8 @@ perhaps None visible = none
 perhaps (Some f) visible = f visible
 
 abbrev pub referred : Option ℕ → Named
-referred None = none
-referred (Some at) = record { places = at ∷ []; captures = [] }
+referred None = record { names = None ∷ []; places = []; captures = []; cells = λ behind. [] }
+referred (Some at) = record { names = Some at ∷ []; places = at ∷ []; captures = []; cells = λ behind. [] }
 
 abbrev pub name : Bytes → Uses
 name n visible = referred (innermost n visible)
@@ -99,11 +116,41 @@ all_added (n ∷ more) ns = all_added more (added n ns)
 abbrev pub once : List ℕ → List ℕ
 once ns = all_added ns []
 
--- A function body: its captures are the outer locals that it or its inner bodies name, in the order in which they are first named.
+-- A function body behind so many visible locals: its captures are those of them that it or its inner bodies name, in the order in
+-- which they are first named.
+abbrev pub captured : ℕ → Named → Named
+captured count u =
+    let outer = of_outer count u.places in
+    record (ended u) { places = outer; captures = once outer ∷ u.captures }
+
+-- ---- declarations
+
+-- the local at this place is among the captures of one of these bodies
+abbrev pub is_in : ℕ → List (List ℕ) → Bool
+is_in at captures = list_any (list_any (nat_eq at)) captures
+
+-- A local is a cell where a body in its scope captures it. The place of the first is this.
+abbrev pub cells_from : ℕ → Names → List (List ℕ) → List Bool
+cells_from at [] behind = []
+cells_from at (n ∷ ns) behind = is_in at behind ∷ cells_from (suc at) ns behind
+
+-- locals of these names are declared behind those that are visible
+abbrev pub declared : Names → Uses
+declared ns visible = record { names = []; places = []; captures = []; cells = cells_from (length visible) ns }
+
+-- where these locals are visible too
+abbrev pub under : Names → Uses → Uses
+under ns u visible = u (visible ++ ns)
+
+-- they are declared there
+abbrev pub declaring : Names → Uses → Uses
+declaring ns u = both (declared ns) (under ns u)
+
+abbrev pub closed : Uses → Uses
+closed u visible = ended (u visible)
+
 abbrev pub function : Names → Uses → Uses
-function params block visible =
-    let outer = of_outer (length visible) (block (visible ++ params)).places in
-    record { places = outer; captures = once outer ∷ (block (visible ++ params)).captures }
+function params block visible = captured (length visible) (declaring params block visible)
 
 -- ---- statements
 
@@ -123,10 +170,6 @@ stats (p ∷ ps) = record {
   locals = p.locals ++ (stats ps).locals;
 }
 
--- where these locals are visible too
-abbrev pub under : Names → Uses → Uses
-under ns u visible = u (visible ++ ns)
-
 abbrev pub variables : List (Bytes × Place) → Names
 variables ns = map (λ n. n.0) ns
 
@@ -135,7 +178,7 @@ locals ns = map (λ n. n.0) ns
 
 abbrev pub or_nothing : Option Part → Uses
 or_nothing None visible = none
-or_nothing (Some p) visible = p.uses visible
+or_nothing (Some p) visible = ended (p.uses visible)
 
 -- ---- one layer of a tree
 
@@ -159,16 +202,16 @@ field_uses (Field-F.Named n e) = e
 field_uses (Field-F.Keyed x e) = both x e
 
 abbrev pub stat_binds : Stat-F Uses Uses Part Uses Uses Part Uses Uses → Part
-stat_binds (Stat-F.Local ns es) = record { uses = each es; locals = locals ns }
+stat_binds (Stat-F.Local ns es) = record { uses = both (each es) (declared (locals ns)); locals = locals ns }
 stat_binds (Stat-F.Assign ts es) = plain (both (each ts) (each es))
 stat_binds (Stat-F.«Stat::Call» e) = plain e
-stat_binds (Stat-F.Do b) = plain b.uses
-stat_binds (Stat-F.While e b) = plain (both e b.uses)
-stat_binds (Stat-F.Repeat b e) = plain (both b.uses (under b.locals e))
+stat_binds (Stat-F.Do b) = plain (closed b.uses)
+stat_binds (Stat-F.While e b) = plain (both e (closed b.uses))
+stat_binds (Stat-F.Repeat b e) = plain (closed (both b.uses (under b.locals e)))
 stat_binds (Stat-F.If bs b) = plain (both (each bs) (or_nothing b))
-stat_binds (Stat-F.ForNum n p from to by b) = plain (both from (both to (both (perhaps by) (under (n ∷ []) b.uses))))
-stat_binds (Stat-F.ForIn ns es b) = plain (both (each es) (under (variables ns) b.uses))
-stat_binds (Stat-F.LocalFunction n p b) = record { uses = under (n ∷ []) b; locals = n ∷ [] }
+stat_binds (Stat-F.ForNum n p from to by b) = plain (both from (both to (both (perhaps by) (closed (declaring (n ∷ []) b.uses)))))
+stat_binds (Stat-F.ForIn ns es b) = plain (both (each es) (closed (declaring (variables ns) b.uses)))
+stat_binds (Stat-F.LocalFunction n p b) = record { uses = declaring (n ∷ []) b; locals = n ∷ [] }
 stat_binds (Stat-F.Return es) = plain (each es)
 stat_binds (Stat-F.Break p) = plain nothing
 
@@ -185,7 +228,7 @@ abbrev pub body_uses : Body-F Uses Uses Part Uses Uses Part Uses Uses → Uses
 body_uses b = function (variables b.params) b.block.uses
 
 abbrev pub branch_uses : Branch-F Uses Uses Part Uses Uses Part Uses Uses → Uses
-branch_uses b = both b.condition b.block.uses
+branch_uses b = both b.condition (closed b.block.uses)
 
 -- ---- whole parts
 
@@ -216,3 +259,15 @@ of_branch = fold-Branch Uses Uses Part Uses Uses Part Uses Uses kind_uses field_
 -- the captures of each body of a script, the main body first, which has none
 abbrev pub captures_of : Tree → List (List ℕ)
 captures_of tree = [] ∷ ((of_block tree.block).uses []).captures
+
+-- what each name of a script refers to
+abbrev pub names_of : Tree → List (Option ℕ)
+names_of tree = ((of_block tree.block).uses []).names
+
+-- which locals of a script are cells, in the order in which they become visible
+abbrev pub cells_of : Tree → List Bool
+cells_of tree = ((of_block tree.block).uses []).cells []
+
+-- all this of a script
+abbrev pub bindings_of : Tree → Bindings
+bindings_of tree = record { names = names_of tree; captured = cells_of tree; bodies = captures_of tree }

@@ -1,18 +1,17 @@
 -- How slots, captured locals, captures and the numbers of bodies and texts follow from what the names of a tree refer to.
-use Rattle.std.specs.Prelude.{◌≡◌, ℕ, suc, ◌+◌, ◌-◌, Bool, true, false, List, [], ◌∷◌, ◌++◌, length, take, map, slice_get, slice_set, max, ◌==◌, nat_lt, if◌then◌else◌, Option, Some, None, Result, Ok, Err}
+use Rattle.std.specs.Prelude.{◌≡◌, ℕ, suc, ◌+◌, ◌-◌, Bool, false, List, [], ◌∷◌, ◌++◌, length, take, map, slice_get, slice_set, max, ◌==◌, nat_lt, if◌then◌else◌, Option, Some, None, Result, Ok, Err}
 use Rattle.std.specs.declared.alloc.AllocError.{AllocError}
 use Rattle.lanes_arena.specs.Names.{named, number_of}
-use Rattle.lua_scope.specs.declared.local.Local.{Local}
-use Rattle.lua_scope.specs.declared.survey.Survey.{Survey}
+use Rattle.lua_scope.specs.declared.binding.Bindings.{Bindings}
 use Rattle.lua_scope.specs.declared.build.Builder.{Builder}
 use Rattle.lua_scope.specs.declared.build.Within.{Within}
 use Rattle.lua_scope.specs.declared.build.Opened.{Opened}
 use Rattle.lua_scope.specs.declared.program.Proto.{Proto}
+use Rattle.lua_scope.specs.declared.program.PlacedText.{PlacedText}
 use Rattle.lua_scope.specs.declared.program.Ref.{Ref}
 use Rattle.lua_scope.specs.declared.program.Ref.TheVariants as r
 use Rattle.lua_scope.specs.declared.program.UpFrom.{UpFrom}
 use Rattle.lua_scope.specs.declared.program.UpFrom.TheVariants.{ParentCell, ParentUp}
-use Rattle.lua_scope.specs.Visible.{last_named}
 
 -- what is made of a part, and what is built then
 abbrev pub Make : Type 0 → Type 0
@@ -29,7 +28,7 @@ abbrev pub or_false : Option Bool → Bool
 or_false None = false
 or_false (Some b) = b
 
-abbrev pub is_captured : Survey → ℕ → Bool
+abbrev pub is_captured : Bindings → ℕ → Bool
 is_captured found number = or_false (slice_get found.captured number)
 
 abbrev pub or_empty : Option (List ℕ) → List ℕ
@@ -37,7 +36,7 @@ or_empty None = []
 or_empty (Some ns) = ns
 
 -- of the body of this number
-abbrev pub captures_of : Survey → ℕ → List ℕ
+abbrev pub captures_of : Bindings → ℕ → List ℕ
 captures_of found body = or_empty (slice_get found.bodies body)
 
 -- the place of a number in a list, or the length of the list
@@ -45,20 +44,20 @@ abbrev pub place_in : ℕ → List ℕ → ℕ
 place_in at [] = 0
 place_in at (n ∷ ns) = if n == at then 0 else suc (place_in at ns)
 
-abbrev pub capture_place : Survey → ℕ → ℕ → ℕ
+abbrev pub capture_place : Bindings → ℕ → ℕ → ℕ
 capture_place found body at = place_in at (captures_of found body)
 
 -- ---- references
 
-abbrev pub own : Survey → ℕ → ℕ → Ref
+abbrev pub own : Bindings → ℕ → ℕ → Ref
 own found number slot = if is_captured found number then r.CellSlot slot else r.Slot slot
 
-abbrev pub own_if : Survey → Option Local → ℕ → Ref
+abbrev pub own_if : Bindings → Option ℕ → ℕ → Ref
 own_if found None slot = r.Slot 0
-own_if found (Some l) slot = own found l.number slot
+own_if found (Some number) slot = own found number slot
 
 -- the visible local at a place: an own one by its place among those of its function
-abbrev pub local : Survey → ℕ → Builder → Ref
+abbrev pub local : Bindings → ℕ → Builder → Ref
 local found at b =
     if nat_lt at b.within.start then r.Up (capture_place found b.within.body at)
     else own_if found (slice_get b.locals at) (at - b.within.start)
@@ -66,20 +65,29 @@ local found at b =
 abbrev pub text : List ℕ → Make ℕ
 text t b = (number_of b.texts t, record b { texts = named b.texts t })
 
-abbrev pub referred : Survey → List ℕ → Option ℕ → Make Ref
+abbrev pub placed : List ℕ → Make PlacedText
+placed t b = (record { bytes = t; place = number_of b.texts t }, record b { texts = named b.texts t })
+
+abbrev pub referred : Bindings → List ℕ → Option ℕ → Make Ref
 referred found n (Some at) b = (local found at b, b)
-referred found n None b = (r.Global n (number_of b.texts n), record b { texts = named b.texts n })
+referred found n None b = (r.Global (placed n b).0, (placed n b).1)
 
-abbrev pub name : Survey → List ℕ → Make Ref
-name found n b = referred found n (last_named n b.locals) b
+-- where the name of a number was looked up
+abbrev pub looked_up : Option (Option ℕ) → Option ℕ
+looked_up None = None
+looked_up (Some at) = at
 
-abbrev pub up_from : Survey → Within → ℕ → UpFrom
+-- the next name of the text
+abbrev pub name : Bindings → List ℕ → Make Ref
+name found n b = referred found n (looked_up (slice_get found.names b.next)) (record b { next = b.next + 1 })
+
+abbrev pub up_from : Bindings → Within → ℕ → UpFrom
 up_from found within at = if nat_lt at within.start then ParentUp (capture_place found within.body at) else ParentCell (at - within.start)
 
-abbrev pub ups : Survey → Within → List ℕ → List UpFrom
+abbrev pub ups : Bindings → Within → List ℕ → List UpFrom
 ups found within captures = map (up_from found within) captures
 
-abbrev pub ups_of : Survey → Within → ℕ → List UpFrom
+abbrev pub ups_of : Bindings → Within → ℕ → List UpFrom
 ups_of found within body = ups found within (captures_of found body)
 
 -- ---- declarations
@@ -87,11 +95,11 @@ ups_of found within body = ups found within (captures_of found body)
 abbrev pub slot_of_next : Builder → ℕ
 slot_of_next b = length b.locals - b.within.start
 
-abbrev pub declare : Survey → List ℕ → Bool → Make Ref
-declare found n constant b = (
+abbrev pub declare : Bindings → Make Ref
+declare found b = (
   own found b.declared (slot_of_next b),
   record b {
-    locals = b.locals ++ record { name = n; constant = constant; number = b.declared } ∷ [];
+    locals = b.locals ++ b.declared ∷ [];
     declared = b.declared + 1;
     within = record b.within { slots = max b.within.slots (slot_of_next b + 1) };
   },
@@ -132,6 +140,7 @@ exited o p b = (
 abbrev pub start : Builder
 start = record {
   locals = [];
+  next = 0;
   declared = 0;
   within = record { body = 0; start = 0; slots = 0 };
   protos = [];

@@ -11,22 +11,21 @@ use Rattle.lua_tree.specs.declared.stat.Body.{Body, fold-Body}
 use Rattle.lua_tree.specs.declared.stat.Block.{Block, fold-Block}
 use Rattle.lua_tree.specs.declared.stat.Branch.{Branch, fold-Branch}
 use Rattle.lua_tree.specs.declared.stat.Tree.{Tree}
-use Rattle.lua_scope.specs.declared.survey.Survey.{Survey}
-use Rattle.lua_scope.specs.declared.build.Builder.{Builder}
+use Rattle.lua_scope.specs.declared.binding.Bindings.{Bindings}
 use Rattle.lua_scope.specs.declared.build.Opened.{Opened}
-use Rattle.lua_scope.specs.declared.program.Proto.{Proto}
 use Rattle.lua_scope.specs.declared.program.Program.{Program}
 use Rattle.lua_scope.specs.declared.program.Ref.{Ref}
 use Rattle.lua_scope.specs.declared.program.Ref.TheVariants as r
 use Rattle.lua_scope.specs.declared.program.RExpr.{RExpr, roll-RExpr}
 use Rattle.lua_scope.specs.declared.program.RExprKind.{RExprKind}
 use Rattle.lua_scope.specs.declared.program.RExprKind.TheVariants as x
+use Rattle.lua_scope.specs.declared.program.RPair.{RPair, roll-RPair}
 use Rattle.lua_scope.specs.declared.program.RField.{RField}
 use Rattle.lua_scope.specs.declared.program.RField.TheVariants as f
 use Rattle.lua_scope.specs.declared.program.RStat.{RStat}
 use Rattle.lua_scope.specs.declared.program.RStat.TheVariants as s
 use Rattle.lua_scope.specs.declared.program.RBranch.{RBranch, roll-RBranch}
-use Rattle.lua_scope.specs.Build.{Make, text, name, declare, opened, ended, entered, exited, ups_of, start}
+use Rattle.lua_scope.specs.Build.{Make, text, placed, name, declare, opened, ended, entered, exited, ups_of, start}
 
 -- ---- one part after another
 
@@ -64,25 +63,25 @@ abbrev pub is_cell : Ref → Bool
 is_cell (r.CellSlot n) = true
 is_cell _ = false
 
-module _ (found : Survey) where
+module _ (found : Bindings) where
   abbrev pub variables : List (Bytes × Place) → Make (List Ref)
   variables [] b = ([], b)
   variables (n ∷ ns) b =
-      let one = declare found n.0 false b in
+      let one = declare found b in
       let more = variables ns one.1 in
       (one.0 ∷ more.0, more.1)
 
   abbrev pub cells : List (Bytes × Place) → Make (List Bool)
   cells [] b = ([], b)
   cells (n ∷ ns) b =
-      let one = declare found n.0 false b in
+      let one = declare found b in
       let more = cells ns one.1 in
       (is_cell one.0 ∷ more.0, more.1)
 
   abbrev pub locals : List (Bytes × Bool × Place) → Make (List (Ref × Bool))
   locals [] b = ([], b)
   locals (n ∷ ns) b =
-      let one = declare found n.0 n.1 b in
+      let one = declare found b in
       let more = locals ns one.1 in
       ((one.0, n.1) ∷ more.0, more.1)
 
@@ -99,15 +98,15 @@ module _ (found : Survey) where
   }) b
 
   -- the body of a loop over numbers, with its variable
-  abbrev pub counted : Bytes → Make (List RStat) → Make (Ref × List RStat)
-  counted n m = nested (bind (declare found n false) (λ r. bind m (λ ss. give (r, ss))))
+  abbrev pub counted : Make (List RStat) → Make (Ref × List RStat)
+  counted m = nested (bind (declare found) (λ r. bind m (λ ss. give (r, ss))))
 
   abbrev pub name_made : Bytes → Place → Make RExprKind
   name_made n p = bind (name found n) (λ r. give (x.Name r p))
 
   -- ---- one layer of a tree
 
-  abbrev pub kind_made : ExprKind-F (Make RExprKind) (Make RField) (Make RStat) (Make RExpr) (Make (RExpr × RExpr)) (Make (List RStat)) (Make ℕ) (Make RBranch) → Make RExprKind
+  abbrev pub kind_made : ExprKind-F (Make RExprKind) (Make RField) (Make RStat) (Make RExpr) (Make RPair) (Make (List RStat)) (Make ℕ) (Make RBranch) → Make RExprKind
   kind_made ExprKind-F.Nil = give x.Nil
   kind_made ExprKind-F.True = give x.True
   kind_made ExprKind-F.False = give x.False
@@ -115,23 +114,23 @@ module _ (found : Survey) where
   kind_made (ExprKind-F.Text t) = text_made t
   kind_made (ExprKind-F.Dots p) = give (x.Dots p)
   kind_made (ExprKind-F.Name n p) = name_made n p
-  kind_made (ExprKind-F.Index two) = bind two (λ both. give (x.Index both.0 both.1))
+  kind_made (ExprKind-F.Index two) = bind two (λ both. give (x.Index both))
   kind_made (ExprKind-F.«ExprKind::Call» e es) = bind e (λ e. bind (all es) (λ es. give (x.Call e es)))
-  kind_made (ExprKind-F.Method e n es) = bind e (λ e. bind (text n) (λ at. bind (all es) (λ es. give (x.Method e n at es))))
+  kind_made (ExprKind-F.Method e n es) = bind e (λ e. bind (placed n) (λ t. bind (all es) (λ es. give (x.Method e t es))))
   kind_made (ExprKind-F.Function b) = bind b (λ n. give (x.Function n))
-  kind_made (ExprKind-F.Binary op two) = bind two (λ both. give (x.Binary op both.0 both.1))
+  kind_made (ExprKind-F.Binary op two) = bind two (λ both. give (x.Binary op both))
   kind_made (ExprKind-F.Unary op e) = bind e (λ e. give (x.Unary op e))
-  kind_made (ExprKind-F.And two) = bind two (λ both. give (x.And both.0 both.1))
-  kind_made (ExprKind-F.Or two) = bind two (λ both. give (x.Or both.0 both.1))
+  kind_made (ExprKind-F.And two) = bind two (λ both. give (x.And both))
+  kind_made (ExprKind-F.Or two) = bind two (λ both. give (x.Or both))
   kind_made (ExprKind-F.Paren e) = bind e (λ e. give (x.Paren e))
   kind_made (ExprKind-F.Table fs) = bind (all fs) (λ fs. give (x.Table fs))
 
-  abbrev pub field_made : Field-F (Make RExprKind) (Make RField) (Make RStat) (Make RExpr) (Make (RExpr × RExpr)) (Make (List RStat)) (Make ℕ) (Make RBranch) → Make RField
+  abbrev pub field_made : Field-F (Make RExprKind) (Make RField) (Make RStat) (Make RExpr) (Make RPair) (Make (List RStat)) (Make ℕ) (Make RBranch) → Make RField
   field_made (Field-F.Item e) = bind e (λ e. give (f.Item e))
   field_made (Field-F.Named n e) = bind (text n) (λ at. bind e (λ e. give (f.Named n at e)))
   field_made (Field-F.Keyed k e) = bind k (λ k. bind e (λ e. give (f.Keyed k e)))
 
-  abbrev pub stat_made : Stat-F (Make RExprKind) (Make RField) (Make RStat) (Make RExpr) (Make (RExpr × RExpr)) (Make (List RStat)) (Make ℕ) (Make RBranch) → Make RStat
+  abbrev pub stat_made : Stat-F (Make RExprKind) (Make RField) (Make RStat) (Make RExpr) (Make RPair) (Make (List RStat)) (Make ℕ) (Make RBranch) → Make RStat
   stat_made (Stat-F.Local ns es) = bind (all es) (λ es. bind (locals ns) (λ ls. give (s.Local ls es)))
   stat_made (Stat-F.Assign ts es) = bind (all ts) (λ ts. bind (all es) (λ es. give (s.Assign ts es)))
   stat_made (Stat-F.«Stat::Call» e) = bind e (λ e. give (s.Call e))
@@ -141,52 +140,52 @@ module _ (found : Survey) where
   stat_made (Stat-F.If bs b) = bind (all bs) (λ bs. bind (perhaps_nested b) (λ ss. give (s.If bs ss)))
   stat_made (Stat-F.ForNum n p from to by b) =
       bind from (λ from. bind to (λ to. bind (perhaps by) (λ by.
-      bind (counted n b) (λ made. give (s.ForNum made.0 from to by made.1)))))
+      bind (counted b) (λ made. give (s.ForNum made.0 from to by made.1)))))
   stat_made (Stat-F.ForIn ns es b) = bind (all es) (λ es. nested (bind (variables ns) (λ rs. bind b (λ ss. give (s.ForIn rs es ss)))))
-  stat_made (Stat-F.LocalFunction n p b) = bind (declare found n false) (λ r. bind b (λ at. give (s.LocalFunction r at)))
+  stat_made (Stat-F.LocalFunction n p b) = bind (declare found) (λ r. bind b (λ at. give (s.LocalFunction r at)))
   stat_made (Stat-F.Return es) = bind (all es) (λ es. give (s.Return es))
   stat_made (Stat-F.Break p) = give (s.Break p)
 
-  abbrev pub expr_made : Expr-F (Make RExprKind) (Make RField) (Make RStat) (Make RExpr) (Make (RExpr × RExpr)) (Make (List RStat)) (Make ℕ) (Make RBranch) → Make RExpr
+  abbrev pub expr_made : Expr-F (Make RExprKind) (Make RField) (Make RStat) (Make RExpr) (Make RPair) (Make (List RStat)) (Make ℕ) (Make RBranch) → Make RExpr
   expr_made e = bind e.what (λ k. give (roll-RExpr (record { what = k; line = e.line })))
 
-  abbrev pub pair_made : Pair-F (Make RExprKind) (Make RField) (Make RStat) (Make RExpr) (Make (RExpr × RExpr)) (Make (List RStat)) (Make ℕ) (Make RBranch) → Make (RExpr × RExpr)
-  pair_made two = bind two.left (λ left. bind two.right (λ right. give (left, right)))
+  abbrev pub pair_made : Pair-F (Make RExprKind) (Make RField) (Make RStat) (Make RExpr) (Make RPair) (Make (List RStat)) (Make ℕ) (Make RBranch) → Make RPair
+  pair_made two = bind two.left (λ left. bind two.right (λ right. give (roll-RPair (record { left = left; right = right }))))
 
-  abbrev pub block_made : Block-F (Make RExprKind) (Make RField) (Make RStat) (Make RExpr) (Make (RExpr × RExpr)) (Make (List RStat)) (Make ℕ) (Make RBranch) → Make (List RStat)
+  abbrev pub block_made : Block-F (Make RExprKind) (Make RField) (Make RStat) (Make RExpr) (Make RPair) (Make (List RStat)) (Make ℕ) (Make RBranch) → Make (List RStat)
   block_made b = all b.stats
 
-  abbrev pub body_made : Body-F (Make RExprKind) (Make RField) (Make RStat) (Make RExpr) (Make (RExpr × RExpr)) (Make (List RStat)) (Make ℕ) (Make RBranch) → Make ℕ
+  abbrev pub body_made : Body-F (Make RExprKind) (Make RField) (Make RStat) (Make RExpr) (Make RPair) (Make (List RStat)) (Make ℕ) (Make RBranch) → Make ℕ
   body_made b = bind entered (λ o. bind (cells b.params) (λ cs. bind b.block (λ ss. finished o cs b.vararg ss b.line)))
 
-  abbrev pub branch_made : Branch-F (Make RExprKind) (Make RField) (Make RStat) (Make RExpr) (Make (RExpr × RExpr)) (Make (List RStat)) (Make ℕ) (Make RBranch) → Make RBranch
+  abbrev pub branch_made : Branch-F (Make RExprKind) (Make RField) (Make RStat) (Make RExpr) (Make RPair) (Make (List RStat)) (Make ℕ) (Make RBranch) → Make RBranch
   branch_made b = bind b.condition (λ e. bind (nested b.block) (λ ss. give (roll-RBranch (record { condition = e; block = ss }))))
 
   -- ---- whole parts
 
   abbrev pub kind_of : ExprKind → Make RExprKind
-  kind_of = fold-ExprKind (Make RExprKind) (Make RField) (Make RStat) (Make RExpr) (Make (RExpr × RExpr)) (Make (List RStat)) (Make ℕ) (Make RBranch) kind_made field_made stat_made expr_made pair_made block_made body_made branch_made
+  kind_of = fold-ExprKind (Make RExprKind) (Make RField) (Make RStat) (Make RExpr) (Make RPair) (Make (List RStat)) (Make ℕ) (Make RBranch) kind_made field_made stat_made expr_made pair_made block_made body_made branch_made
 
   abbrev pub expr_of : Expr → Make RExpr
-  expr_of = fold-Expr (Make RExprKind) (Make RField) (Make RStat) (Make RExpr) (Make (RExpr × RExpr)) (Make (List RStat)) (Make ℕ) (Make RBranch) kind_made field_made stat_made expr_made pair_made block_made body_made branch_made
+  expr_of = fold-Expr (Make RExprKind) (Make RField) (Make RStat) (Make RExpr) (Make RPair) (Make (List RStat)) (Make ℕ) (Make RBranch) kind_made field_made stat_made expr_made pair_made block_made body_made branch_made
 
-  abbrev pub pair_of : Pair → Make (RExpr × RExpr)
-  pair_of = fold-Pair (Make RExprKind) (Make RField) (Make RStat) (Make RExpr) (Make (RExpr × RExpr)) (Make (List RStat)) (Make ℕ) (Make RBranch) kind_made field_made stat_made expr_made pair_made block_made body_made branch_made
+  abbrev pub pair_of : Pair → Make RPair
+  pair_of = fold-Pair (Make RExprKind) (Make RField) (Make RStat) (Make RExpr) (Make RPair) (Make (List RStat)) (Make ℕ) (Make RBranch) kind_made field_made stat_made expr_made pair_made block_made body_made branch_made
 
   abbrev pub field_of : Field → Make RField
-  field_of = fold-Field (Make RExprKind) (Make RField) (Make RStat) (Make RExpr) (Make (RExpr × RExpr)) (Make (List RStat)) (Make ℕ) (Make RBranch) kind_made field_made stat_made expr_made pair_made block_made body_made branch_made
+  field_of = fold-Field (Make RExprKind) (Make RField) (Make RStat) (Make RExpr) (Make RPair) (Make (List RStat)) (Make ℕ) (Make RBranch) kind_made field_made stat_made expr_made pair_made block_made body_made branch_made
 
   abbrev pub stat_of : Stat → Make RStat
-  stat_of = fold-Stat (Make RExprKind) (Make RField) (Make RStat) (Make RExpr) (Make (RExpr × RExpr)) (Make (List RStat)) (Make ℕ) (Make RBranch) kind_made field_made stat_made expr_made pair_made block_made body_made branch_made
+  stat_of = fold-Stat (Make RExprKind) (Make RField) (Make RStat) (Make RExpr) (Make RPair) (Make (List RStat)) (Make ℕ) (Make RBranch) kind_made field_made stat_made expr_made pair_made block_made body_made branch_made
 
   abbrev pub block_of : Block → Make (List RStat)
-  block_of = fold-Block (Make RExprKind) (Make RField) (Make RStat) (Make RExpr) (Make (RExpr × RExpr)) (Make (List RStat)) (Make ℕ) (Make RBranch) kind_made field_made stat_made expr_made pair_made block_made body_made branch_made
+  block_of = fold-Block (Make RExprKind) (Make RField) (Make RStat) (Make RExpr) (Make RPair) (Make (List RStat)) (Make ℕ) (Make RBranch) kind_made field_made stat_made expr_made pair_made block_made body_made branch_made
 
   abbrev pub body_of : Body → Make ℕ
-  body_of = fold-Body (Make RExprKind) (Make RField) (Make RStat) (Make RExpr) (Make (RExpr × RExpr)) (Make (List RStat)) (Make ℕ) (Make RBranch) kind_made field_made stat_made expr_made pair_made block_made body_made branch_made
+  body_of = fold-Body (Make RExprKind) (Make RField) (Make RStat) (Make RExpr) (Make RPair) (Make (List RStat)) (Make ℕ) (Make RBranch) kind_made field_made stat_made expr_made pair_made block_made body_made branch_made
 
   abbrev pub branch_of : Branch → Make RBranch
-  branch_of = fold-Branch (Make RExprKind) (Make RField) (Make RStat) (Make RExpr) (Make (RExpr × RExpr)) (Make (List RStat)) (Make ℕ) (Make RBranch) kind_made field_made stat_made expr_made pair_made block_made body_made branch_made
+  branch_of = fold-Branch (Make RExprKind) (Make RField) (Make RStat) (Make RExpr) (Make RPair) (Make (List RStat)) (Make ℕ) (Make RBranch) kind_made field_made stat_made expr_made pair_made block_made body_made branch_made
 
   -- the main body, which takes `...`
   abbrev pub main_of : Tree → Make ℕ

@@ -7,7 +7,6 @@ use Rattle.lua_tokens.specs.declared.place.Place.{Place}
 use Rattle.lua_scope.specs.declared.fault.ScopeFault.{ScopeFault}
 use Rattle.lua_scope.specs.declared.fault.ScopeFault.TheVariants as fault
 use Rattle.lua_scope.specs.declared.local.Local.{Local}
-use Rattle.lua_scope.specs.declared.local.Inside.{Inside}
 use Rattle.lua_scope.specs.declared.survey.Survey.{Survey}
 use Rattle.lua_scope.specs.declared.survey.Begun.{Begun}
 use Rattle.lua_scope.specs.declared.survey.Outer.{Outer}
@@ -63,8 +62,14 @@ abbrev pub found : Option ℕ → Place → Bool → Step
 found None p is_target s = Ok s
 found (Some at) p is_target s = referred at p is_target s
 
+-- what a name refers to is kept, in the order of the text
+abbrev pub noted : Option ℕ → Survey → Survey
+noted at s = record s { names = s.names ++ at ∷ [] }
+
 abbrev pub mentioned : List ℕ → Place → Bool → Step
-mentioned name p is_target s = if is_refused name then Err (fault.EnvName p) else found (last_named name s.locals) p is_target s
+mentioned name p is_target s =
+    if is_refused name then Err (fault.EnvName p)
+    else found (last_named name s.locals) p is_target (noted (last_named name s.locals) s)
 
 abbrev pub dotted : Place → Step
 dotted p s = if s.inside.vararg then Ok s else Err (fault.VarargOutside p)
@@ -121,6 +126,7 @@ exited o s = ended o.begun (record s {
 abbrev pub start : Survey
 start = record {
   locals = [];
+  names = [];
   captured = [];
   bodies = [] ∷ [];
   captures = [];

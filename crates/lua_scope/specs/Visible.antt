@@ -1,6 +1,5 @@
 -- The locals that are visible at a place, the one that was declared first at the head.
 use Rattle.std.specs.Prelude.{ℕ, suc, List, [], ◌∷◌, Option, Some, None, if◌then◌else◌}
-use Rattle.std.specs.Option.{option_map}
 use Rattle.std.specs.Str.{bytes_eq}
 use Rattle.lua_scope.specs.declared.local.Local.{Local}
 

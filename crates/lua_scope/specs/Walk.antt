@@ -1,5 +1,5 @@
 -- What is found in a tree, by cases of its parts in the order of their text.
-use Rattle.std.specs.Prelude.{ℕ, suc, Bool, true, false, List, [], ◌∷◌, Option, Some, None, Result, Ok, Err}
+use Rattle.std.specs.Prelude.{ℕ, suc, Bool, true, false, List, [], ◌∷◌, Option, Some, None, Result, Ok}
 use Rattle.lua_tokens.specs.declared.place.Place.{Place}
 use Rattle.lua_tree.specs.declared.expr.Expr.{Expr, fold-Expr}
 use Rattle.lua_tree.specs.declared.expr.Pair.{Pair, fold-Pair}

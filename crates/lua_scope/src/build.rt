@@ -3,12 +3,12 @@ ghost use Rattle.std.specs.Prelude.{◌≡◌, ◌∷◌, [], slice_set, IfOk, O
 ghost use Rattle.lua_scope.specs.Build as spec;
 ghost use Rattle.lua_scope.specs.Build.{Makes};
 
-use crate::local::{Local, close, find};
-use crate::program::{Proto, Ref, UpFrom};
-use crate::survey::Survey;
+use crate::binding::Bindings;
+use crate::local::close;
+use crate::program::{PlacedText, Proto, Ref, UpFrom};
 use crate::texts::Texts;
 use lanes_arena::{Bytes, Row};
-use sqlite_items::Items;
+use sqlite_items::{Boxed, Items};
 use std::alloc::{AllocError, Global};
 
 /// The function body in which a place stands: its number, how many locals were visible where it begins, and how many slots it
@@ -20,12 +20,13 @@ pub struct Within {
     pub slots: usize,
 }
 
-/// What was built: the visible locals, how many were declared so far, the body in which the walk stands, the bodies so far, and
-/// the texts so far.
+/// What was built: the visible locals, each by the number of its declaration, how many were declared so far, the number of the
+/// next name in the text, the body in which the walk stands, the bodies so far, and the texts so far.
 #[derive(Drop)]
 pub struct Builder {
-    pub locals: Items<Local>,
+    pub locals: Items<usize>,
     pub declared: usize,
+    pub next: usize,
     pub within: Within,
     pub protos: Items<Proto>,
     pub texts: Texts,
@@ -61,7 +62,7 @@ pub fn narrow(number: usize) -> Result<u32, AllocError>
 }
 
 /// Whether an inner body names the local of this number.
-fn is_captured(found: &Survey, number: usize) -> bool
+fn is_captured(found: &Bindings, number: usize) -> bool
     ensures { result ≡ spec.is_captured found.now number }
 {
     match found.captured.get(number) {
@@ -85,7 +86,7 @@ fn place_in(at: usize, captures: &[usize]) -> usize
 }
 
 /// The place of a visible local among the captures of a body.
-fn capture_place(found: &Survey, body: usize, at: usize) -> usize
+fn capture_place(found: &Bindings, body: usize, at: usize) -> usize
     ensures { result ≡ spec.capture_place found.now body at }
 {
     match found.bodies.get(body) {
@@ -95,7 +96,7 @@ fn capture_place(found: &Survey, body: usize, at: usize) -> usize
 }
 
 /// Where a new function finds the visible local at this place.
-fn up_from(found: &Survey, within: Within, at: usize) -> Result<UpFrom, AllocError>
+fn up_from(found: &Bindings, within: Within, at: usize) -> Result<UpFrom, AllocError>
     ensures { IfOk result (λ up. up ≡ spec.up_from found.now within at) }
 {
     if at < within.start {
@@ -107,23 +108,23 @@ fn up_from(found: &Survey, within: Within, at: usize) -> Result<UpFrom, AllocErr
 
 fn ups(
     alloc: Global,
-    found: &Survey,
+    found: &Bindings,
     within: Within,
     captures: &[usize],
 ) -> Result<Row<UpFrom>, AllocError>
     ensures { IfOk result (λ ups. ups ≡ spec.ups found.now within captures.now) }
 {
-    let mut ups = Vec::new(alloc);
+    let mut ups = Row::new(alloc);
     for at in captures {
         ups.push(up_from(found, within, *at)?)?;
     }
-    Ok(Row::of(ups))
+    Ok(ups)
 }
 
 /// Where a body that captures these locals finds them, in the function in which the walk stands.
 pub fn ups_of(
     alloc: Global,
-    found: &Survey,
+    found: &Bindings,
     within: Within,
     body: usize,
 ) -> Result<Row<UpFrom>, AllocError>
@@ -131,7 +132,7 @@ pub fn ups_of(
 {
     match found.bodies.get(body) {
         Some(captures) => ups(alloc, found, within, captures.as_slice()),
-        None => Ok(Row::of(Vec::new(alloc))),
+        None => Ok(Row::new(alloc)),
     }
 }
 
@@ -141,11 +142,11 @@ fn blank(alloc: Global) -> Proto
 {
     Proto {
         params: 0,
-        cells: Row::of(Vec::new(alloc)),
+        cells: Row::new(alloc),
         vararg: false,
         slots: 0,
-        ups: Row::of(Vec::new(alloc)),
-        body: Items::new(alloc),
+        ups: Row::new(alloc),
+        body: Row::new(alloc),
         line: 0,
     }
 }
@@ -158,6 +159,7 @@ impl Builder {
         Builder {
             locals: Items::new(alloc),
             declared: 0,
+            next: 0,
             within: Within {
                 body: 0,
                 start: 0,
@@ -175,8 +177,16 @@ impl Builder {
         self.texts.place(text)
     }
 
+    /// A text beside its place.
+    pub fn placed(&mut self, alloc: Global, bytes: Bytes) -> Result<Boxed<PlacedText>, AllocError>
+        ensures { Makes (spec.placed bytes self.old) result self.new }
+    {
+        let place = self.texts.place(&bytes)?;
+        Boxed::new(alloc, PlacedText { bytes, place })
+    }
+
     /// A local of the function in which the walk stands, by the number of its declaration and its slot.
-    fn own(&self, found: &Survey, number: usize, slot: usize) -> Result<Ref, AllocError>
+    fn own(&self, found: &Bindings, number: usize, slot: usize) -> Result<Ref, AllocError>
         ensures { IfOk result (λ r. r ≡ spec.own found.now number slot) }
     {
         let slot = small(slot)?;
@@ -188,39 +198,36 @@ impl Builder {
     }
 
     /// The visible local at this place.
-    fn local(&self, found: &Survey, at: usize) -> Result<Ref, AllocError>
+    fn local(&self, found: &Bindings, at: usize) -> Result<Ref, AllocError>
         ensures { IfOk result (λ r. r ≡ spec.local found.now at self.now) }
     {
         if at < self.within.start {
             return Ok(Ref::Up(small(capture_place(found, self.within.body, at))?));
         }
         match self.locals.get(at) {
-            Some(local) => self.own(found, local.number, at - self.within.start),
+            Some(number) => self.own(found, *number, at - self.within.start),
             None => Ok(Ref::Slot(0)),
         }
     }
 
-    /// What a name refers to.
-    pub fn name(&mut self, found: &Survey, name: &Bytes) -> Result<Ref, AllocError>
-        ensures { Makes (spec.name found.now name.now self.old) result self.new }
+    /// What the next name of the text refers to.
+    pub fn name(&mut self, alloc: Global, found: &Bindings, name: Bytes) -> Result<Ref, AllocError>
+        ensures { Makes (spec.name found.now name self.old) result self.new }
     {
-        match find(name.as_slice(), self.locals.as_slice()) {
-            Some(at) => self.local(found, at),
-            None => {
-                let place = self.texts.place(name)?;
-                Ok(Ref::Global(name.copy()?, place))
-            }
+        let number = self.next;
+        let Some(next) = number.checked_add(1) else {
+            return Err(AllocError);
+        };
+        self.next = next;
+        match found.names.get(number) {
+            Some(Some(at)) => self.local(found, *at),
+            _ => Ok(Ref::Global(self.placed(alloc, name)?)),
         }
     }
 
     /// A local is visible from here on.
-    pub fn declare(
-        &mut self,
-        found: &Survey,
-        name: &Bytes,
-        constant: bool,
-    ) -> Result<Ref, AllocError>
-        ensures { Makes (spec.declare found.now name.now constant self.old) result self.new }
+    pub fn declare(&mut self, found: &Bindings) -> Result<Ref, AllocError>
+        ensures { Makes (spec.declare found.now self.old) result self.new }
     {
         let number = self.declared;
         let Some(declared) = number.checked_add(1) else {
@@ -232,12 +239,7 @@ impl Builder {
             return Err(AllocError);
         };
         let local = self.own(found, number, slot)?;
-        let name = name.copy()?;
-        self.locals.push(Local {
-            name,
-            constant,
-            number,
-        })?;
+        self.locals.push(number)?;
         self.declared = declared;
         if slots > self.within.slots {
             self.within.slots = slots;

@@ -39,7 +39,7 @@ pub fn find(name: &[u8], locals: &[Local]) -> Option<usize>
 }
 
 /// Takes the locals away that were declared past the first `count`.
-pub fn close(locals: &mut Items<Local>, count: usize)
+pub fn close<T: Drop>(locals: &mut Items<T>, count: usize)
     ensures { locals.new ≡ take count locals.old }
 {
     while locals.len() > count {

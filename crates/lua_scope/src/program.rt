@@ -5,6 +5,13 @@ use lua_tokens::Place;
 use lua_tree::{Binary, Unary};
 use sqlite_items::{Boxed, Items};
 
+/// A text of a program: its bytes, and its place in the texts of the program.
+#[derive(Debug, Drop)]
+pub struct PlacedText {
+    pub bytes: Bytes,
+    pub place: u32,
+}
+
 /// What a name refers to. A slot is the place of a local among those of its function that are visible where it is declared.
 #[derive(Debug, Drop)]
 pub enum Ref {
@@ -14,8 +21,8 @@ pub enum Ref {
     CellSlot(u16),
     /// A local of an outer function: its place among the captures of this one.
     Up(u16),
-    /// A global name, and its place in the texts of the program.
-    Global(Bytes, u32),
+    /// A global name.
+    Global(Boxed<PlacedText>),
 }
 
 /// Where a new function finds a local that it captures, in the function that makes it.
@@ -36,7 +43,7 @@ pub struct Proto {
     pub vararg: bool,
     pub slots: u16,
     pub ups: Row<UpFrom>,
-    pub body: Items<RStat>,
+    pub body: Row<RStat>,
     pub line: u32,
 }
 
@@ -47,7 +54,7 @@ pub struct Proto {
 pub struct Program {
     pub name: Bytes,
     pub protos: Items<Proto>,
-    pub texts: Items<Bytes>,
+    pub texts: Row<Bytes>,
 }
 
 /// A condition of an `if` statement and the statements that it guards.
@@ -55,7 +62,7 @@ pub struct Program {
 #[derive(Debug, Drop)]
 pub struct RBranch {
     pub condition: RExpr,
-    pub block: Items<RStat>,
+    pub block: Row<RStat>,
 }
 
 /// A statement. It is that of the tree, with names bound, a block being its list of statements and a function body its number.
@@ -63,17 +70,17 @@ pub struct RBranch {
 #[derive(Debug, Drop)]
 pub enum RStat {
     /// The locals, each with whether it is `<const>`, and their values.
-    Local(Row<(Ref, bool)>, Items<RExpr>),
-    Assign(Items<RExpr>, Items<RExpr>),
+    Local(Row<(Ref, bool)>, Row<RExpr>),
+    Assign(Row<RExpr>, Row<RExpr>),
     Call(RExpr),
-    Do(Items<RStat>),
-    While(RExpr, Items<RStat>),
-    Repeat(Items<RStat>, RExpr),
-    If(Items<RBranch>, Option<Items<RStat>>),
-    ForNum(Ref, Boxed<RExpr>, Boxed<RExpr>, Option<Boxed<RExpr>>, Items<RStat>),
-    ForIn(Row<Ref>, Items<RExpr>, Items<RStat>),
+    Do(Row<RStat>),
+    While(RExpr, Row<RStat>),
+    Repeat(Row<RStat>, RExpr),
+    If(Row<RBranch>, Option<Row<RStat>>),
+    ForNum(Ref, Boxed<RExpr>, Boxed<RExpr>, Option<Boxed<RExpr>>, Row<RStat>),
+    ForIn(Row<Ref>, Row<RExpr>, Row<RStat>),
     LocalFunction(Ref, u32),
-    Return(Items<RExpr>),
+    Return(Row<RExpr>),
     Break(Place),
 }
 
@@ -85,7 +92,8 @@ pub struct RExpr {
     pub line: u32,
 }
 
-/// What an expression is. The number behind a text and behind the name of a method is its place in the texts of the program.
+/// What an expression is. The number behind a text is its place in the texts of the program. What is rare lies in boxes of its own,
+/// so that an expression has 40 bytes, as that of a tree.
 #[cycle(expr)]
 #[derive(Debug, Drop)]
 pub enum RExprKind {
@@ -96,16 +104,24 @@ pub enum RExprKind {
     Text(Bytes, u32),
     Dots(Place),
     Name(Ref, Place),
-    Index(Boxed<RExpr>, Boxed<RExpr>),
-    Call(Boxed<RExpr>, Items<RExpr>),
-    Method(Boxed<RExpr>, Bytes, u32, Items<RExpr>),
+    Index(Boxed<RPair>),
+    Call(Boxed<RExpr>, Boxed<Row<RExpr>>),
+    Method(Boxed<RExpr>, Boxed<PlacedText>, Boxed<Row<RExpr>>),
     Function(u32),
-    Binary(Binary, Boxed<RExpr>, Boxed<RExpr>),
+    Binary(Binary, Boxed<RPair>),
     Unary(Unary, Boxed<RExpr>),
-    And(Boxed<RExpr>, Boxed<RExpr>),
-    Or(Boxed<RExpr>, Boxed<RExpr>),
+    And(Boxed<RPair>),
+    Or(Boxed<RPair>),
     Paren(Boxed<RExpr>),
-    Table(Items<RField>),
+    Table(Row<RField>),
+}
+
+/// The two parts of an expression, which share a box.
+#[cycle(expr)]
+#[derive(Debug, Drop)]
+pub struct RPair {
+    pub left: RExpr,
+    pub right: RExpr,
 }
 
 /// A field of a table constructor. The number behind a name is its place in the texts of the program.

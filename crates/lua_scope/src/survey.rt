@@ -16,12 +16,14 @@ use std::mem;
 /// The greatest number of locals that are visible at once in a function.
 const MOST_LOCALS: usize = 200;
 
-/// What was found: the visible locals; for each local declared so far whether an inner body names it; for each body begun so
+/// What was found: the visible locals; for each name so far the place of the local to which it refers, or none for a global, in
+/// the order of the text; for each local declared so far whether an inner body names it; for each body begun so
 /// far its captures, once it has ended; the captures so far of the body in which the walk stands; and that body. A capture is
 /// the place of a visible local.
 #[derive(Debug, Drop)]
 pub struct Survey {
     pub locals: Items<Local>,
+    pub names: Items<Option<usize>>,
     pub captured: Items<bool>,
     pub bodies: Items<Items<usize>>,
     pub captures: Items<usize>,
@@ -89,6 +91,7 @@ impl Survey {
         bodies.push(Items::new(alloc))?;
         Ok(Survey {
             locals: Items::new(alloc),
+            names: Items::new(alloc),
             captured: Items::new(alloc),
             bodies,
             captures: Items::new(alloc),
@@ -131,7 +134,9 @@ impl Survey {
         if is_refused(name) {
             return Err(ScopeFault::EnvName(place));
         }
-        match find(name.as_slice(), self.locals.as_slice()) {
+        let found = find(name.as_slice(), self.locals.as_slice());
+        self.names.push(found)?;
+        match found {
             None => Ok(()),
             Some(at) => self.refer(at, place, is_target),
         }

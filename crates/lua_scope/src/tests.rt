@@ -4,7 +4,7 @@ use crate::{Program, ScopeFault, resolve};
 use lanes_arena::{Bytes, Row};
 use lua_tokens::Place;
 use lua_tree::{Block, Body, Expr, ExprKind, Stat, Tree};
-use sqlite_items::{Boxed, Items};
+use sqlite_items::Boxed;
 use std::alloc::{AllocError, Global};
 use std::test::Fail;
 
@@ -20,8 +20,8 @@ fn name(alloc: Global, text: &[u8], at: u32) -> Result<Expr, AllocError> {
     Ok(expr(ExprKind::Name(Bytes::of(alloc, text)?, place(at))))
 }
 
-fn one<T: Drop>(alloc: Global, item: T) -> Result<Items<T>, AllocError> {
-    let mut items = Items::new(alloc);
+fn one<T: Drop>(alloc: Global, item: T) -> Result<Row<T>, AllocError> {
+    let mut items = Row::new(alloc);
     items.push(item)?;
     Ok(items)
 }
@@ -38,7 +38,7 @@ fn local(alloc: Global, text: &[u8], constant: bool, value: Expr) -> Result<Stat
 fn function(alloc: Global, s: Stat) -> Result<Expr, AllocError> {
     let stats = one(alloc, s)?;
     let body = Body {
-        params: Row::of(Vec::new(alloc)),
+        params: Row::new(alloc),
         vararg: false,
         block: Block { stats },
         line: 1,
@@ -46,7 +46,7 @@ fn function(alloc: Global, s: Stat) -> Result<Expr, AllocError> {
     Ok(expr(ExprKind::Function(Boxed::new(alloc, body)?)))
 }
 
-fn program(alloc: Global, stats: Items<Stat>) -> Result<Program, ScopeFault> {
+fn program(alloc: Global, stats: Row<Stat>) -> Result<Program, ScopeFault> {
     let name = Bytes::of(alloc, b"")?;
     let block = Block { stats };
     resolve(alloc, Tree { block }, name)
@@ -65,11 +65,11 @@ fn a_local_is_not_seen_in_its_own_value(rt: HostRuntime) -> Result<(), Fail> {
     let x = name(alloc, b"x", 10)?;
     let p = program(alloc, one(alloc, local(alloc, b"x", false, x)?)?)?;
     assert_eq!(rt; p.protos.len(), 1);
-    assert_eq!(rt; p.texts.len(), 1);
+    assert_eq!(rt; p.texts.as_slice().len(), 1);
     let shown = format!(in alloc; "{:?}", p.protos.get(0))?;
     assert!(rt;
         shown.contains(
-            "Local(Row { items: [(Slot(0), false)] }, Items { items: [RExpr { what: Name(Global([120], 0)"
+            "Local(Row { items: [(Slot(0), false)] }, Row { items: [RExpr { what: Name(Global(Boxed { inner: PlacedText { bytes: [120], place: 0 } })"
         ),
         "{shown}"
     );

@@ -2,7 +2,7 @@ use Rattle.std.proofs.Common.{◌≡◌, length, take}
 use Rattle.lua_scope.proofs.local.close.Given as goal
 
 abbrev pub invariant-loop-locals : goal.invariant-loop-locals
-invariant-loop-locals l = take l.count l.locals ≡ take l.count l.initial.locals
+invariant-loop-locals g l = take l.count l.locals ≡ take l.count l.initial.locals
 
 abbrev pub decreases-loop-locals : goal.decreases-loop-locals
-decreases-loop-locals l = length l.locals
+decreases-loop-locals g l = length l.locals

@@ -4,4 +4,4 @@ use Rattle.lua_scope.specs.Resolved.{cells}
 use Rattle.lua_scope.proofs.lower.cells.Given as goal
 
 abbrev pub invariant-loop-name : goal.invariant-loop-name
-invariant-loop-name l = behind l.cells.items (cells l.found (drop l.name-index l.names) l.builder) ≡ cells l.found l.names l.initial.builder
+invariant-loop-name l = behind l.cells (cells l.found (drop l._name-index l.names) l.builder) ≡ cells l.found l.names l.initial.builder

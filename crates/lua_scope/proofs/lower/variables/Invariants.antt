@@ -4,4 +4,4 @@ use Rattle.lua_scope.specs.Resolved.{variables}
 use Rattle.lua_scope.proofs.lower.variables.Given as goal
 
 abbrev pub invariant-loop-name : goal.invariant-loop-name
-invariant-loop-name l = behind l.refs.items (variables l.found (drop l.name-index l.names) l.builder) ≡ variables l.found l.names l.initial.builder
+invariant-loop-name l = behind l.refs (variables l.found (drop l._name-index l.names) l.builder) ≡ variables l.found l.names l.initial.builder

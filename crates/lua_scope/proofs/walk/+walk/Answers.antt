@@ -1,5 +1,5 @@
-use Rattle.std.proofs.Common.{◌≡◌, ◌∙◌, refl, ap, sym, List, [], ◌∷◌, ◌++◌, map, false}
-use Rattle.lua_scope.specs.Survey.{begun, ended, exited}
+use Rattle.std.proofs.Common.{◌∙◌, refl, ap, sym, ◌∷◌, ◌++◌, map, false}
+use Rattle.lua_scope.specs.Survey.{ended, exited}
 use Rattle.lua_scope.specs.Rules.{scope_of, with_names, named_local, variable, stats, stat_part}
 use Rattle.lua_scope.proofs.RuleLemmas.{with_both, closed_scope, found_step, fault_step, scope_step, repeat_locals}
 use Rattle.lua_scope.proofs.walk.+walk.Goals as goal
