@@ -10,7 +10,8 @@ A case is a folder with any of these files:
     stdout, stderr  what must be written (nothing where they are missing)
     status          the exit status that is wanted (0 where it is missing)
 
-Each row of grammar_rows.py is a case too: a script on standard input, which has no fault, or one with this line and text.
+Each row of grammar_rows.py and of scope_rows.py is a case too: a script on standard input, which has no fault, or one with this
+line and text.
 
 With --after LOG the counts of a run of `rt ci` in LOG are added.
 """
@@ -26,6 +27,7 @@ import tempfile
 
 sys.dont_write_bytecode = True
 import grammar_rows
+import scope_rows
 
 TESTS = pathlib.Path(__file__).resolve().parent
 PROGRAM = TESTS.parent / "crates" / "lanes" / "out" / "lanes"
@@ -73,7 +75,7 @@ def run(case):
 
 
 def run_row(row):
-    """Runs a row of the grammar, and answers what differs, as lines."""
+    """Runs a row, and answers what differs, as lines."""
     script, fault = row
     wanted = f"lanes: stdin:{fault}\n" if fault else "lanes: stdin: not built yet\n"
     try:
@@ -88,10 +90,11 @@ def all_cases():
     """What is run, and what differs there, as lines."""
     for case in sorted(path for path in TESTS.iterdir() if path.is_dir()):
         yield f"tests/{case.name}", run(case)
-    rows = list(grammar_rows.rows())
-    with concurrent.futures.ThreadPoolExecutor(os.cpu_count()) as pool:
-        for row, lines in zip(rows, pool.map(run_row, rows)):
-            yield f"the row {row[0][:200]!r} of tests/grammar_rows.py", lines
+    for module in (grammar_rows, scope_rows):
+        rows = list(module.rows())
+        with concurrent.futures.ThreadPoolExecutor(os.cpu_count()) as pool:
+            for row, lines in zip(rows, pool.map(run_row, rows)):
+                yield f"the row {row[0][:200]!r} of tests/{module.__name__}.py", lines
 
 
 def differences(name, wanted, found):

@@ -13,10 +13,13 @@ use Rattle.lua_grammar.specs.Grammar.{Spells}
 use Rattle.lua_parser.specs.declared.fault.ParseFault.{ParseFault}
 use Rattle.lua_parser.specs.declared.fault.ParseFault.TheVariants as parse
 use Rattle.lua_parser.specs.Answers as grammar
+use Rattle.lua_scope.specs.declared.fault.ScopeFault.{ScopeFault}
+use Rattle.lua_scope.specs.declared.fault.ScopeFault.TheVariants as scope
+use Rattle.lua_scope.specs.Rules.{broken}
 use Rattle.first_form.specs.declared.line.Line.{Line}
 use Rattle.first_form.specs.Outcome.{IsFirstForm}
 use Rattle.lanes_program.specs.declared.refusal.Refusal.{Refusal}
-use Rattle.lanes_program.specs.declared.refusal.Refusal.TheVariants.{TooLong, Lexical, Grammatical, NotBuilt}
+use Rattle.lanes_program.specs.declared.refusal.Refusal.TheVariants.{TooLong, Lexical, Grammatical, Scoped, NotBuilt}
 use Rattle.lanes_program.specs.Reading.{Gave, GaveTooMuch}
 
 -- the text of a lexical fault, and the line of the script where it is
@@ -68,11 +71,29 @@ parse_line (parse.GotoNotHere place) = place.line
 parse_line (parse.BadAttribute place) = place.line
 parse_line parse.Memory = 0
 
+-- the text of a fault of scope, and the line of the script where it is
+abbrev pub scope_text : ScopeFault → List ℕ
+scope_text (scope.ConstAssigned place) = codes "assignment to a constant"
+scope_text (scope.BreakOutside place) = codes "break outside a loop"
+scope_text (scope.VarargOutside place) = codes "'...' outside a vararg function"
+scope_text (scope.TooManyLocals place) = codes "too many local variables"
+scope_text (scope.EnvName place) = codes "_ENV is not supported"
+scope_text scope.Memory = codes "not enough memory"
+
+abbrev pub scope_line : ScopeFault → ℕ
+scope_line (scope.ConstAssigned place) = place.line
+scope_line (scope.BreakOutside place) = place.line
+scope_line (scope.VarargOutside place) = place.line
+scope_line (scope.TooManyLocals place) = place.line
+scope_line (scope.EnvName place) = place.line
+scope_line scope.Memory = 0
+
 -- how the line goes on behind the script's name
 abbrev pub refusal_text : Refusal → List ℕ
 refusal_text TooLong = codes ": script too long"
 refusal_text (Lexical fault) = codes ":" ++ (decimal (fault_line fault) ++ (codes ": " ++ fault_text fault))
 refusal_text (Grammatical fault token) = codes ":" ++ (decimal (parse_line fault) ++ (codes ": " ++ parse_text fault token))
+refusal_text (Scoped fault) = codes ":" ++ (decimal (scope_line fault) ++ (codes ": " ++ scope_text fault))
 refusal_text NotBuilt = codes ": not built yet"
 
 abbrev pub refusal_line : List ℕ → Refusal → List ℕ
@@ -96,6 +117,16 @@ pub record IsParsed (script : List ℕ) : Type 0 where
   pub spells : Spells tree tokens
   pub shallow : depth_of tree ≤ 60
 
+-- the script is parsed, and its tree breaks no rule of scope
+pub record IsBound (script : List ℕ) : Type 0 where
+  pub parsed : IsParsed script
+  pub unbroken : broken parsed.tree ≡ None
+
+-- the script is parsed, and this is the first rule of scope that its tree breaks
+pub record IsUnscoped (script : List ℕ) (fault : ScopeFault) : Type 0 where
+  pub parsed : IsParsed script
+  pub breaks : broken parsed.tree ≡ Some fault
+
 -- the tokens of the script have this fault
 pub record IsUnparsed (script : List ℕ) (fault : ParseFault) : Type 0 where
   pub tokens : List Token
@@ -103,12 +134,13 @@ pub record IsUnparsed (script : List ℕ) (fault : ParseFault) : Type 0 where
   pub fails : grammar.IsFault tokens fault
 
 -- A script of lawful length has no tokens, with this fault, or its tokens have this fault, at a token with these bytes or at the
--- end, or it is parsed and does not run yet.
+-- end, or its tree breaks this rule of scope first, or its tree breaks none and it does not run yet.
 abbrev pub Refuses : List ℕ → Refusal → Type 0
 Refuses script TooLong = ⊥
 Refuses script (Lexical fault) = IsFault script fault × (has_place fault ≡ true)
 Refuses script (Grammatical fault token) = IsUnparsed script fault × ((place : Place) → grammar.place_of fault ≡ Some place → SpelledAt (drop place.at script) token)
-Refuses script NotBuilt = IsParsed script × ((lines : List Line) → IsFirstForm script lines → ⊥)
+Refuses script (Scoped fault) = IsUnscoped script fault
+Refuses script NotBuilt = IsBound script × ((lines : List Line) → IsFirstForm script lines → ⊥)
 
 -- the input gave a script that is refused so, and was read to its end, or it gave more than a script may have
 abbrev pub IsRefused : Option (List ℕ) → Option (List ℕ) → Refusal → Type 0

@@ -1,11 +1,12 @@
 //! Why a script is refused, and the line that says so.
 ghost use Rattle.std.specs.Prelude.{◌≡◌, ◌++◌, codes, IfOk, OnOk};
 ghost use Rattle.std.specs.Fmt.{decimal};
-ghost use Rattle.lanes_program.specs.Refusals.{fault_text, fault_line, parse_line, parse_text, refusal_line, refusal_text, script_name, unexpected_text};
+ghost use Rattle.lanes_program.specs.Refusals.{fault_text, fault_line, parse_line, parse_text, refusal_line, refusal_text, scope_line, scope_text, script_name, unexpected_text};
 
 use lanes_arena::{Bytes, Memory};
 use lua_lexer::LexFault;
 use lua_parser::ParseFault;
+use lua_scope::ScopeFault;
 use std::alloc::Global;
 
 /// Why a script is refused.
@@ -17,6 +18,8 @@ pub enum Refusal {
     Lexical(LexFault),
     /// Its tokens have no tree. The bytes are those of the token that is refused, none at the end.
     Grammatical(ParseFault, Option<Bytes>),
+    /// Its tree breaks a rule of scope.
+    Scoped(ScopeFault),
     /// It is a script of a kind that does not run yet.
     NotBuilt,
 }
@@ -39,6 +42,7 @@ fn push_reason(alloc: Global, line: &mut Vec<u8>, refusal: &Refusal) -> Result<(
         Refusal::TooLong => line.extend_from_slice(b": script too long"),
         Refusal::Lexical(fault) => push_fault(alloc, line, *fault),
         Refusal::Grammatical(fault, token) => push_parse_fault(alloc, line, *fault, token),
+        Refusal::Scoped(fault) => push_scope_fault(alloc, line, *fault),
         Refusal::NotBuilt => line.extend_from_slice(b": not built yet"),
     }
 }
@@ -69,6 +73,13 @@ fn push_parse_fault(
 {
     push_line_number(alloc, line, parse_line(fault))?;
     push_parse_text(line, fault, token)
+}
+
+fn push_scope_fault(alloc: Global, line: &mut Vec<u8>, fault: ScopeFault) -> Result<(), Memory>
+    ensures { OnOk result (line.new.items ≡ line.old.items ++ refusal_text (Refusal.Scoped fault)) }
+{
+    push_line_number(alloc, line, scope_line(fault))?;
+    line.extend_from_slice(scope_text(fault))
 }
 
 fn push_parse_text(
@@ -142,6 +153,33 @@ fn fault_text(fault: LexFault) -> &'static [u8]
         LexFault::OpenComment(_) => b"unfinished comment",
         LexFault::TooLong => b"script too long",
         LexFault::Memory => b"not enough memory",
+    }
+}
+
+// The line of the script where a fault of scope is.
+fn scope_line(fault: ScopeFault) -> u32
+    ensures { result ≡ scope_line fault }
+{
+    match fault {
+        ScopeFault::ConstAssigned(place)
+        | ScopeFault::BreakOutside(place)
+        | ScopeFault::VarargOutside(place)
+        | ScopeFault::TooManyLocals(place)
+        | ScopeFault::EnvName(place) => place.line,
+        ScopeFault::Memory => 0,
+    }
+}
+
+fn scope_text(fault: ScopeFault) -> &'static [u8]
+    ensures { result.now ≡ scope_text fault }
+{
+    match fault {
+        ScopeFault::ConstAssigned(_) => b"assignment to a constant",
+        ScopeFault::BreakOutside(_) => b"break outside a loop",
+        ScopeFault::VarargOutside(_) => b"'...' outside a vararg function",
+        ScopeFault::TooManyLocals(_) => b"too many local variables",
+        ScopeFault::EnvName(_) => b"_ENV is not supported",
+        ScopeFault::Memory => b"not enough memory",
     }
 }
 

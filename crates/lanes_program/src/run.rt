@@ -3,11 +3,12 @@ ghost use Rattle.std.specs.Prelude.{◌≡◌, ◌≢◌, ◌≤◌, [], List, l
 ghost use Rattle.std.specs.Io.KnownBytes.{Keeps};
 ghost use Rattle.lanes_program.specs.Finish.{RunsPart, RunsWhole};
 ghost use Rattle.lanes_program.specs.Reading.{TellsFaults};
-ghost use Rattle.lanes_program.specs.Refusals.{IsParsed, IsRefused, IsUnparsed, Refuses};
+ghost use Rattle.lanes_program.specs.Refusals.{IsBound, IsRefused, IsUnparsed, Refuses};
 ghost use Rattle.lua_lexer.specs.Tokens.{Lexes};
 ghost use Rattle.lua_lexer.specs.View.{marks};
 ghost use Rattle.lanes_program.specs.Running.{RanAll, RanPart};
 ghost use Rattle.lanes_program.specs.Status.{IsEarlyEnd, MayChange};
+ghost use Rattle.lua_scope.specs.Rules.{broken};
 ghost use Rattle.first_form.specs.Outcome.{IsFirstForm};
 
 use crate::calls::Call;
@@ -15,9 +16,11 @@ use crate::lines::{LineStop, run_lines};
 use crate::reading::{ReadEnd, read_script};
 use crate::refusal::Refusal;
 use first_form::{Line, lines_of};
-use lanes_arena::Bytes;
+use lanes_arena::{Bytes, Memory};
 use lua_lexer::{LexFault, TokenList, token_bytes, tokens};
 use lua_parser::{ParseFault, parse};
+use lua_scope::{ScopeFault, bind};
+use lua_tree::Tree;
 use outside::{Sink, Source};
 use std::alloc::Global;
 
@@ -88,39 +91,54 @@ fn accepted(alloc: Global, script: &Bytes) -> Result<Vec<Line>, End>
     match lines_of(alloc, script.as_slice()) {
         Ok(Some(lines)) => Ok(lines),
         Ok(None) => {
-            parsed(alloc, script)?;
+            bound(alloc, script)?;
             Err(End::Refused(Refusal::NotBuilt))
         }
         Err(_) => Err(End::Memory),
     }
 }
 
-// Nothing for a script whose tokens have a tree, or how the run of another one ends at once.
-fn parsed(alloc: Global, script: &Bytes) -> Result<(), End>
+// Nothing for a script that has a tree in which no rule of scope is broken, or how the run of another one ends at once.
+fn bound(alloc: Global, script: &Bytes) -> Result<(), End>
     requires { length script.now ≤ 1048576 }
-    ensures parsed { OnOk result (IsParsed script.now) }
+    ensures bound { OnOk result (IsBound script.now) }
     ensures refused { (refusal : Refusal) → result ≡ Err (End.Refused refusal) → Refuses script.now refusal }
     ensures others { IfErr result IsEarlyEnd }
 {
     match tokens(alloc, script) {
-        Ok(found) => parsed_tokens(alloc, script, found),
+        Ok(found) => bound_tokens(alloc, script, found),
         Err(LexFault::TooLong | LexFault::Memory) => Err(End::Memory),
         Err(fault) => Err(End::Refused(Refusal::Lexical(fault))),
     }
 }
 
 // The same for a script with these tokens.
-#[tactic(auto, using(crate::proofs::RefusalLemmas::tokens_end))]
-fn parsed_tokens(alloc: Global, script: &Bytes, tokens: TokenList) -> Result<(), End>
+fn bound_tokens(alloc: Global, script: &Bytes, tokens: TokenList) -> Result<(), End>
     requires { Lexes script.now (marks tokens) }
-    ensures parsed { OnOk result (IsParsed script.now) }
+    ensures bound { OnOk result (IsBound script.now) }
     ensures refused { (refusal : Refusal) → result ≡ Err (End.Refused refusal) → Refuses script.now refusal }
     ensures others { IfErr result IsEarlyEnd }
 {
     match parse(alloc, tokens) {
-        Ok(_) => Ok(()),
+        Ok(tree) => match first_fault(alloc, &tree) {
+            Ok(None) => Ok(()),
+            Ok(Some(fault)) => Err(End::Refused(Refusal::Scoped(fault))),
+            Err(Memory) => Err(End::Memory),
+        },
         Err(ParseFault::Memory) => Err(End::Memory),
         Err(fault) => Err(unparsed(alloc, script, fault)),
+    }
+}
+
+// The first rule of scope that a tree breaks, if it breaks one.
+#[tactic(auto, using(crate::proofs::RefusalLemmas::told))]
+fn first_fault(alloc: Global, tree: &Tree) -> Result<Option<ScopeFault>, Memory>
+    ensures { IfOk result (λ first. broken tree.now ≡ first) }
+{
+    match bind(alloc, tree) {
+        Ok(_) => Ok(None),
+        Err(ScopeFault::Memory) => Err(Memory),
+        Err(fault) => Ok(Some(fault)),
     }
 }
 

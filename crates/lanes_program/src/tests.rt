@@ -15,6 +15,14 @@ const TWO: &[u8] =
 const TWO_KEYS: &[u8] =
     b"local lanes = require \"lanes\" local l = lanes.linda()\nl:send(\"a\", 1)\nl:send(\"b\", 2)\nl:send(\"a\", 3)\nprint(l:receive(\"b\"))\nprint(l:receive(\"a\"))\nprint(l:receive(\"a\"))\n";
 
+// The statement declares 201 locals: fifty on each line but the first and the last.
+const LOCALS: &[u8] = b"local
+a,a,a,a,a,a,a,a,a,a,a,a,a,a,a,a,a,a,a,a,a,a,a,a,a,a,a,a,a,a,a,a,a,a,a,a,a,a,a,a,a,a,a,a,a,a,a,a,a,a,
+a,a,a,a,a,a,a,a,a,a,a,a,a,a,a,a,a,a,a,a,a,a,a,a,a,a,a,a,a,a,a,a,a,a,a,a,a,a,a,a,a,a,a,a,a,a,a,a,a,a,
+a,a,a,a,a,a,a,a,a,a,a,a,a,a,a,a,a,a,a,a,a,a,a,a,a,a,a,a,a,a,a,a,a,a,a,a,a,a,a,a,a,a,a,a,a,a,a,a,a,a,
+a,a,a,a,a,a,a,a,a,a,a,a,a,a,a,a,a,a,a,a,a,a,a,a,a,a,a,a,a,a,a,a,a,a,a,a,a,a,a,a,a,a,a,a,a,a,a,a,a,a,
+a";
+
 const NOT_BUILT: &[u8] = b"lanes: t.lua: not built yet\n";
 
 struct Case {
@@ -28,7 +36,7 @@ struct Case {
     calls: usize,
 }
 
-const CASES: [Case; 21] = [
+const CASES: [Case; 27] = [
     Case {
         script: FIRST,
         read: 0,
@@ -207,6 +215,60 @@ const CASES: [Case; 21] = [
         status: 3,
         output: b"",
         errors: b"lanes: t.lua:1: unexpected '='\n",
+        calls: 0,
+    },
+    Case {
+        script: b"break",
+        read: 0,
+        write: 0,
+        status: 3,
+        output: b"",
+        errors: b"lanes: t.lua:1: break outside a loop\n",
+        calls: 0,
+    },
+    Case {
+        script: b"local x <const> = 1\nf = function() x = 2 end",
+        read: 0,
+        write: 0,
+        status: 3,
+        output: b"",
+        errors: b"lanes: t.lua:2: assignment to a constant\n",
+        calls: 0,
+    },
+    Case {
+        script: b"function f()\nreturn ... end",
+        read: 0,
+        write: 0,
+        status: 3,
+        output: b"",
+        errors: b"lanes: t.lua:2: '...' outside a vararg function\n",
+        calls: 0,
+    },
+    Case {
+        script: LOCALS,
+        read: 0,
+        write: 0,
+        status: 3,
+        output: b"",
+        errors: b"lanes: t.lua:6: too many local variables\n",
+        calls: 0,
+    },
+    Case {
+        script: b"local x <const>, _ENV = 1, 2",
+        read: 0,
+        write: 0,
+        status: 3,
+        output: b"",
+        errors: b"lanes: t.lua:1: _ENV is not supported\n",
+        calls: 0,
+    },
+    Case {
+        script: b"break\nx = = 1",
+        read: 0,
+        write: 0,
+        status: 3,
+        output: b"",
+        errors: b"lanes: t.lua:2: unexpected '='\n",
         calls: 0,
     },
     Case {
