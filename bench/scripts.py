@@ -3,7 +3,7 @@
 
     bench/scripts.py [RUNS]
 
-Each script has at most 1,048,576 bytes. The time is the least of RUNS runs (10 where it is not given), with the output
+Each script has at most 1,048,576 bytes. The time is the least of RUNS runs (10 where it is not given) by turns, with the output
 thrown away; the peak is the greatest resident memory of a run, where Debian's package time is installed.
 """
 import os
@@ -85,18 +85,21 @@ def shapes():
     ]
 
 
-def least(command, runs):
-    """The least time of a run in seconds, and the status. Five seconds of runs are enough, but two are made at least."""
-    best, status, spent = None, None, 0
-    for run in range(runs):
-        if 5 < spent and 2 <= run:
+def least(commands, runs):
+    """The least time of a run in seconds and the status, for each of the commands, which run by turns after a first run that does
+    not count. Ten seconds of runs are enough, but two of each are made at least."""
+    best, status, spent = [None] * len(commands), [None] * len(commands), 0
+    for run in range(runs + 1):
+        if 10 < spent and 3 <= run:
             break
-        start = time.perf_counter()
-        status = subprocess.run(command, stdout=subprocess.DEVNULL, stderr=subprocess.DEVNULL).returncode
-        taken = time.perf_counter() - start
-        spent += taken
-        best = taken if best is None else min(best, taken)
-    return best, status
+        for place, command in enumerate(commands):
+            start = time.perf_counter()
+            status[place] = subprocess.run(command, stdout=subprocess.DEVNULL, stderr=subprocess.DEVNULL).returncode
+            taken = time.perf_counter() - start
+            spent += taken
+            if 0 < run:
+                best[place] = taken if best[place] is None else min(best[place], taken)
+    return list(zip(best, status))
 
 
 def peak(command):
@@ -123,12 +126,12 @@ def main():
         for name, text in scripts:
             path = os.path.join(folder, "script.lua")
             pathlib.Path(path).write_text(text)
-            seconds, status = least([str(PROGRAM), path], runs)
+            commands = [[str(PROGRAM), path]] + ([[luac, "-p", path]] if luac else [])
+            (seconds, status), *peer = least(commands, runs)
             line = f"{name}: {len(text)} bytes, {text.count(chr(10))} lines: {seconds * 1000:.1f} ms, status {status}"
             kilobytes = peak([str(PROGRAM), path])
             line += f", peak {kilobytes / 1024:.1f} MiB" if kilobytes else ""
-            if luac:
-                seconds, status = least([luac, "-p", path], runs)
+            for seconds, status in peer:
                 line += f"; luac5.4 -p {seconds * 1000:.1f} ms" + (f", status {status}" if status else "")
             print(line)
 
