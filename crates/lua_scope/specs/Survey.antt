@@ -8,6 +8,7 @@ use Rattle.lua_scope.specs.declared.fault.ScopeFault.{ScopeFault}
 use Rattle.lua_scope.specs.declared.fault.ScopeFault.TheVariants as fault
 use Rattle.lua_scope.specs.declared.local.Local.{Local}
 use Rattle.lua_scope.specs.declared.survey.Survey.{Survey}
+use Rattle.lua_scope.specs.declared.survey.Stopped.{Stopped}
 use Rattle.lua_scope.specs.declared.survey.Begun.{Begun}
 use Rattle.lua_scope.specs.declared.survey.Outer.{Outer}
 use Rattle.lua_scope.specs.Visible.{last_named}
@@ -19,6 +20,11 @@ Step = Survey → Result Survey ScopeFault
 abbrev pub after : Result Survey ScopeFault → Step → Result Survey ScopeFault
 after (Ok s) next = next s
 after (Err f) next = Err f
+
+-- what a function that walks over a part answers, with the reason where it stopped
+abbrev pub told : {X : Type 0} → Result X Stopped → Survey → Result X ScopeFault
+told (Ok x) s = Ok x
+told (Err e) s = Err s.fault
 
 -- What a function that walks over a part ensures, unless memory runs out.
 abbrev pub Follows : Result Survey ScopeFault → Result (Unit {0}) ScopeFault → Survey → Type 0
@@ -131,4 +137,5 @@ start = record {
   bodies = [] ∷ [];
   captures = [];
   inside = record { body = 0; start = 0; vararg = true; in_loop = false };
+  fault = fault.Memory;
 }

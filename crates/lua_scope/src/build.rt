@@ -1,5 +1,5 @@
 //! What is built of a program while its tree is walked over.
-ghost use Rattle.std.specs.Prelude.{◌≡◌, ◌∷◌, [], slice_set, IfOk, OnOk, MatchOption, length};
+ghost use Rattle.std.specs.Prelude.{◌≡◌, IfOk};
 ghost use Rattle.lua_scope.specs.Build as spec;
 ghost use Rattle.lua_scope.specs.Build.{Makes};
 

@@ -493,7 +493,7 @@ pub fn program(
     let Builder { protos, texts, .. } = builder;
     Ok(Program {
         name,
-        protos,
         texts: texts.into_list(alloc)?,
+        protos,
     })
 }

@@ -47,14 +47,15 @@ pub struct Proto {
     pub line: u32,
 }
 
-/// A script whose names are bound: its name, its function bodies in the order of their first tokens, with the main body first,
-/// and each text that they have, once, in the order of the first places. A text is a string constant, a global name, the name
-/// of a method or of a field of a table constructor.
+/// A script whose names are bound: its name, each text of its function bodies, once, in the order of the first places, and its
+/// function bodies in the order of their first tokens, with the main body first. A text is a string constant, a global name, the
+/// name of a method or of a field of a table constructor. The texts are let go before the bodies: a long list that was let go
+/// behind many small ones would have the allocator join those at once.
 #[derive(Debug, Drop)]
 pub struct Program {
     pub name: Bytes,
-    pub protos: Items<Proto>,
     pub texts: Row<Bytes>,
+    pub protos: Items<Proto>,
 }
 
 /// A condition of an `if` statement and the statements that it guards.

@@ -2,6 +2,7 @@
 ghost use Rattle.std.specs.Prelude.{◌≡◌, [], IfOk, OnOk};
 ghost use Rattle.lanes_arena.specs.Names.{named, number_of};
 
+use crate::build::narrow;
 use indexmap::IndexSet;
 use lanes_arena::{Bytes, Row};
 use std::alloc::{AllocError, Global};
@@ -40,11 +41,7 @@ impl Texts {
         ensures texts { OnOk result (self.new ≡ named self.old text.now) }
     {
         let (place, _) = self.set.insert_full(text.copy()?)?;
-        if place < 1 << 32 {
-            Ok(place as u32)
-        } else {
-            Err(AllocError)
-        }
+        narrow(place)
     }
 
     /// The texts as a list.

@@ -1,20 +1,22 @@
 //! A walk over a tree, which finds what its names refer to.
 ghost use Rattle.std.specs.Prelude.{◌≡◌, map, false, OnOk, IfErr};
-ghost use Rattle.lua_scope.specs.Survey.{Follows, Surveys, declared};
+ghost use Rattle.std.specs.Option.{option_map};
+ghost use Rattle.lua_scope.specs.Survey.{Follows, Surveys, told, declared};
 ghost use Rattle.lua_scope.specs.Walk as spec;
 ghost use Rattle.lua_scope.specs.Rules as rules;
 ghost use Rattle.lua_scope.specs.Rules.{Tells, scope_of};
 
 use crate::fault::ScopeFault;
-use crate::survey::Survey;
+use crate::survey::{Stopped, Survey};
 use lanes_arena::Bytes;
 use lua_tokens::Place;
 use lua_tree::{Block, Body, Branch, Expr, ExprKind, Field, Pair, Stat, Tree};
 use std::alloc::Global;
 
-fn announce_all(survey: &Survey, names: &[(Bytes, Place)]) -> Result<(), ScopeFault>
-    ensures found { Follows (spec.all_announced 0 names.now survey.now) result survey.now }
-    ensures fault { Tells (rules.all_declared 0 names.now (scope_of survey.now)) result }
+fn announce_all(survey: &mut Survey, names: &[(Bytes, Place)]) -> Result<(), Stopped>
+    ensures found { Follows (spec.all_announced 0 names.now survey.old) (told result survey.new) survey.new }
+    ensures fault { Tells (rules.all_declared 0 names.now (scope_of survey.old)) (told result survey.new) }
+    ensures same { OnOk result (survey.new ≡ survey.old) }
 {
     let mut before = 0;
     for name in names {
@@ -24,9 +26,9 @@ fn announce_all(survey: &Survey, names: &[(Bytes, Place)]) -> Result<(), ScopeFa
     Ok(())
 }
 
-fn declare_all(survey: &mut Survey, names: &[(Bytes, Place)]) -> Result<(), ScopeFault>
-    ensures found { Follows (spec.all_declared names.now survey.old) result survey.new }
-    ensures fault { IfErr result (λ fault. fault ≡ ScopeFault.Memory) }
+fn declare_all(survey: &mut Survey, names: &[(Bytes, Place)]) -> Result<(), Stopped>
+    ensures found { Follows (spec.all_declared names.now survey.old) (told result survey.new) survey.new }
+    ensures fault { IfErr (told result survey.new) (λ fault. fault ≡ ScopeFault.Memory) }
     ensures scope { OnOk result (scope_of survey.new ≡ rules.with_names (map rules.variable names.now) (scope_of survey.old)) }
 {
     for name in names {
@@ -35,9 +37,10 @@ fn declare_all(survey: &mut Survey, names: &[(Bytes, Place)]) -> Result<(), Scop
     Ok(())
 }
 
-fn announce_locals(survey: &Survey, names: &[(Bytes, bool, Place)]) -> Result<(), ScopeFault>
-    ensures found { Follows (spec.locals_announced 0 names.now survey.now) result survey.now }
-    ensures fault { Tells (rules.locals_declared 0 names.now (scope_of survey.now)) result }
+fn announce_locals(survey: &mut Survey, names: &[(Bytes, bool, Place)]) -> Result<(), Stopped>
+    ensures found { Follows (spec.locals_announced 0 names.now survey.old) (told result survey.new) survey.new }
+    ensures fault { Tells (rules.locals_declared 0 names.now (scope_of survey.old)) (told result survey.new) }
+    ensures same { OnOk result (survey.new ≡ survey.old) }
 {
     let mut before = 0;
     for name in names {
@@ -47,9 +50,9 @@ fn announce_locals(survey: &Survey, names: &[(Bytes, bool, Place)]) -> Result<()
     Ok(())
 }
 
-fn declare_locals(survey: &mut Survey, names: &[(Bytes, bool, Place)]) -> Result<(), ScopeFault>
-    ensures found { Follows (spec.locals_declared names.now survey.old) result survey.new }
-    ensures fault { IfErr result (λ fault. fault ≡ ScopeFault.Memory) }
+fn declare_locals(survey: &mut Survey, names: &[(Bytes, bool, Place)]) -> Result<(), Stopped>
+    ensures found { Follows (spec.locals_declared names.now survey.old) (told result survey.new) survey.new }
+    ensures fault { IfErr (told result survey.new) (λ fault. fault ≡ ScopeFault.Memory) }
     ensures scope { OnOk result (scope_of survey.new ≡ rules.with_names (map rules.local names.now) (scope_of survey.old)) }
 {
     for name in names {
@@ -60,9 +63,9 @@ fn declare_locals(survey: &mut Survey, names: &[(Bytes, bool, Place)]) -> Result
 
 /// An expression, which may be a target of an assignment.
 #[cycle(walk)]
-fn expr(alloc: Global, survey: &mut Survey, e: &Expr, is_target: bool) -> Result<(), ScopeFault>
-    ensures found { Follows (spec.in_expr e.now is_target survey.old) result survey.new }
-    ensures fault { Tells (rules.expr_faults e.now is_target (scope_of survey.old)) result }
+fn expr(alloc: Global, survey: &mut Survey, e: &Expr, is_target: bool) -> Result<(), Stopped>
+    ensures found { Follows (spec.in_expr e.now is_target survey.old) (told result survey.new) survey.new }
+    ensures fault { Tells (rules.expr_faults e.now is_target (scope_of survey.old)) (told result survey.new) }
     ensures scope { OnOk result (scope_of survey.new ≡ scope_of survey.old) }
 {
     match &e.what {
@@ -87,9 +90,9 @@ fn expr(alloc: Global, survey: &mut Survey, e: &Expr, is_target: bool) -> Result
 }
 
 #[cycle(walk)]
-fn pair(alloc: Global, survey: &mut Survey, two: &Pair) -> Result<(), ScopeFault>
-    ensures found { Follows (spec.in_pair two.now survey.old) result survey.new }
-    ensures fault { Tells (rules.pair_faults two.now (scope_of survey.old)) result }
+fn pair(alloc: Global, survey: &mut Survey, two: &Pair) -> Result<(), Stopped>
+    ensures found { Follows (spec.in_pair two.now survey.old) (told result survey.new) survey.new }
+    ensures fault { Tells (rules.pair_faults two.now (scope_of survey.old)) (told result survey.new) }
     ensures scope { OnOk result (scope_of survey.new ≡ scope_of survey.old) }
 {
     expr(alloc, survey, &two.left, false)?;
@@ -97,14 +100,9 @@ fn pair(alloc: Global, survey: &mut Survey, two: &Pair) -> Result<(), ScopeFault
 }
 
 #[cycle(walk)]
-fn exprs(
-    alloc: Global,
-    survey: &mut Survey,
-    all: &[Expr],
-    are_targets: bool,
-) -> Result<(), ScopeFault>
-    ensures found { Follows (spec.each_of are_targets (map spec.in_expr all.now) survey.old) result survey.new }
-    ensures fault { Tells (rules.each_of are_targets (map rules.expr_faults all.now) (scope_of survey.old)) result }
+fn exprs(alloc: Global, survey: &mut Survey, all: &[Expr], are_targets: bool) -> Result<(), Stopped>
+    ensures found { Follows (spec.each_of are_targets (map spec.in_expr all.now) survey.old) (told result survey.new) survey.new }
+    ensures fault { Tells (rules.each_of are_targets (map rules.expr_faults all.now) (scope_of survey.old)) (told result survey.new) }
     ensures scope { OnOk result (scope_of survey.new ≡ scope_of survey.old) }
 {
     for e in all {
@@ -114,9 +112,9 @@ fn exprs(
 }
 
 #[cycle(walk)]
-fn fields(alloc: Global, survey: &mut Survey, all: &[Field]) -> Result<(), ScopeFault>
-    ensures found { Follows (spec.each (map spec.in_field all.now) survey.old) result survey.new }
-    ensures fault { Tells (rules.each (map rules.field_faults all.now) (scope_of survey.old)) result }
+fn fields(alloc: Global, survey: &mut Survey, all: &[Field]) -> Result<(), Stopped>
+    ensures found { Follows (spec.each (map spec.in_field all.now) survey.old) (told result survey.new) survey.new }
+    ensures fault { Tells (rules.each (map rules.field_faults all.now) (scope_of survey.old)) (told result survey.new) }
     ensures scope { OnOk result (scope_of survey.new ≡ scope_of survey.old) }
 {
     for field in all {
@@ -133,9 +131,9 @@ fn fields(alloc: Global, survey: &mut Survey, all: &[Field]) -> Result<(), Scope
 
 /// The statements of a block, without an end of the locals that they declare.
 #[cycle(walk)]
-fn stats(alloc: Global, survey: &mut Survey, all: &[Stat]) -> Result<(), ScopeFault>
-    ensures found { Follows (spec.each (map spec.in_stat all.now) survey.old) result survey.new }
-    ensures fault { Tells ((rules.stats (map rules.stat_part all.now)).faults (scope_of survey.old)) result }
+fn stats(alloc: Global, survey: &mut Survey, all: &[Stat]) -> Result<(), Stopped>
+    ensures found { Follows (spec.each (map spec.in_stat all.now) survey.old) (told result survey.new) survey.new }
+    ensures fault { Tells ((rules.stats (map rules.stat_part all.now)).faults (scope_of survey.old)) (told result survey.new) }
     ensures scope { OnOk result (scope_of survey.new ≡ rules.with_names (rules.stats (map rules.stat_part all.now)).locals (scope_of survey.old)) }
 {
     for s in all {
@@ -145,15 +143,28 @@ fn stats(alloc: Global, survey: &mut Survey, all: &[Stat]) -> Result<(), ScopeFa
 }
 
 #[cycle(walk)]
-fn nested(alloc: Global, survey: &mut Survey, b: &Block) -> Result<(), ScopeFault>
-    ensures found { Follows (spec.nested (spec.in_block b.now) survey.old) result survey.new }
-    ensures fault { Tells ((rules.block_part b.now).faults (scope_of survey.old)) result }
+fn nested(alloc: Global, survey: &mut Survey, b: &Block) -> Result<(), Stopped>
+    ensures found { Follows (spec.nested (spec.in_block b.now) survey.old) (told result survey.new) survey.new }
+    ensures fault { Tells ((rules.block_part b.now).faults (scope_of survey.old)) (told result survey.new) }
     ensures scope { OnOk result (scope_of survey.new ≡ scope_of survey.old) }
 {
     let begun = survey.begin();
     stats(alloc, survey, b.stats.as_slice())?;
     survey.end(begun);
     Ok(())
+}
+
+/// A block that may be left out.
+#[cycle(walk)]
+fn nested_if(alloc: Global, survey: &mut Survey, b: &Option<Block>) -> Result<(), Stopped>
+    ensures found { Follows (spec.nested_if (option_map spec.in_block b.now) survey.old) (told result survey.new) survey.new }
+    ensures fault { Tells (rules.or_none (option_map rules.block_part b.now) (scope_of survey.old)) (told result survey.new) }
+    ensures scope { OnOk result (scope_of survey.new ≡ scope_of survey.old) }
+{
+    match b {
+        Some(b) => nested(alloc, survey, b),
+        None => Ok(()),
+    }
 }
 
 /// The body of a loop with these variables.
@@ -163,9 +174,9 @@ fn looped(
     survey: &mut Survey,
     b: &Block,
     variables: &[(Bytes, Place)],
-) -> Result<(), ScopeFault>
-    ensures found { Follows (spec.looped (spec.then (spec.all_declared variables.now) (spec.in_block b.now)) survey.old) result survey.new }
-    ensures fault { Tells ((rules.block_part b.now).faults (rules.with_names (map rules.variable variables.now) (rules.looping (scope_of survey.old)))) result }
+) -> Result<(), Stopped>
+    ensures found { Follows (spec.looped (spec.then (spec.all_declared variables.now) (spec.in_block b.now)) survey.old) (told result survey.new) survey.new }
+    ensures fault { Tells ((rules.block_part b.now).faults (rules.with_names (map rules.variable variables.now) (rules.looping (scope_of survey.old)))) (told result survey.new) }
     ensures scope { OnOk result (scope_of survey.new ≡ scope_of survey.old) }
 {
     let begun = survey.begin();
@@ -178,9 +189,9 @@ fn looped(
 
 /// The body of a loop with this variable.
 #[cycle(walk)]
-fn counted(alloc: Global, survey: &mut Survey, b: &Block, name: &Bytes) -> Result<(), ScopeFault>
-    ensures found { Follows (spec.looped (spec.then (declared name.now false) (spec.in_block b.now)) survey.old) result survey.new }
-    ensures fault { Tells ((rules.block_part b.now).faults (rules.with_name (name.now, false) (rules.looping (scope_of survey.old)))) result }
+fn counted(alloc: Global, survey: &mut Survey, b: &Block, name: &Bytes) -> Result<(), Stopped>
+    ensures found { Follows (spec.looped (spec.then (declared name.now false) (spec.in_block b.now)) survey.old) (told result survey.new) survey.new }
+    ensures fault { Tells ((rules.block_part b.now).faults (rules.with_name (name.now, false) (rules.looping (scope_of survey.old)))) (told result survey.new) }
     ensures scope { OnOk result (scope_of survey.new ≡ scope_of survey.old) }
 {
     let begun = survey.begin();
@@ -192,9 +203,9 @@ fn counted(alloc: Global, survey: &mut Survey, b: &Block, name: &Bytes) -> Resul
 }
 
 #[cycle(walk)]
-fn branches(alloc: Global, survey: &mut Survey, all: &[Branch]) -> Result<(), ScopeFault>
-    ensures found { Follows (spec.each (map spec.in_branch all.now) survey.old) result survey.new }
-    ensures fault { Tells (rules.each (map rules.branch_faults all.now) (scope_of survey.old)) result }
+fn branches(alloc: Global, survey: &mut Survey, all: &[Branch]) -> Result<(), Stopped>
+    ensures found { Follows (spec.each (map spec.in_branch all.now) survey.old) (told result survey.new) survey.new }
+    ensures fault { Tells (rules.each (map rules.branch_faults all.now) (scope_of survey.old)) (told result survey.new) }
     ensures scope { OnOk result (scope_of survey.new ≡ scope_of survey.old) }
 {
     for branch in all {
@@ -205,9 +216,9 @@ fn branches(alloc: Global, survey: &mut Survey, all: &[Branch]) -> Result<(), Sc
 }
 
 #[cycle(walk)]
-fn body(alloc: Global, survey: &mut Survey, b: &Body) -> Result<(), ScopeFault>
-    ensures found { Follows (spec.in_body b.now survey.old) result survey.new }
-    ensures fault { Tells (rules.body_faults b.now (scope_of survey.old)) result }
+fn body(alloc: Global, survey: &mut Survey, b: &Body) -> Result<(), Stopped>
+    ensures found { Follows (spec.in_body b.now survey.old) (told result survey.new) survey.new }
+    ensures fault { Tells (rules.body_faults b.now (scope_of survey.old)) (told result survey.new) }
     ensures scope { OnOk result (scope_of survey.new ≡ scope_of survey.old) }
 {
     let outer = survey.enter(alloc, b.vararg)?;
@@ -219,9 +230,9 @@ fn body(alloc: Global, survey: &mut Survey, b: &Body) -> Result<(), ScopeFault>
 }
 
 #[cycle(walk)]
-fn stat(alloc: Global, survey: &mut Survey, s: &Stat) -> Result<(), ScopeFault>
-    ensures found { Follows (spec.in_stat s.now survey.old) result survey.new }
-    ensures fault { Tells ((rules.stat_part s.now).faults (scope_of survey.old)) result }
+fn stat(alloc: Global, survey: &mut Survey, s: &Stat) -> Result<(), Stopped>
+    ensures found { Follows (spec.in_stat s.now survey.old) (told result survey.new) survey.new }
+    ensures fault { Tells ((rules.stat_part s.now).faults (scope_of survey.old)) (told result survey.new) }
     ensures scope { OnOk result (scope_of survey.new ≡ rules.with_names (rules.stat_part s.now).locals (scope_of survey.old)) }
 {
     match s {
@@ -250,10 +261,7 @@ fn stat(alloc: Global, survey: &mut Survey, s: &Stat) -> Result<(), ScopeFault>
         }
         Stat::If(all, otherwise) => {
             branches(alloc, survey, all.as_slice())?;
-            match otherwise {
-                Some(b) => nested(alloc, survey, b),
-                None => Ok(()),
-            }
+            nested_if(alloc, survey, otherwise)
         }
         Stat::ForNum(name, place, from, to, by, b) => {
             survey.announce(name, *place, 0)?;
@@ -288,6 +296,8 @@ pub fn survey(alloc: Global, tree: &Tree) -> Result<Survey, ScopeFault>
     ensures fault { Tells (rules.broken tree.now) result }
 {
     let mut survey = Survey::new(alloc)?;
-    stats(alloc, &mut survey, tree.block.stats.as_slice())?;
-    Ok(survey)
+    match stats(alloc, &mut survey, tree.block.stats.as_slice()) {
+        Ok(()) => Ok(survey),
+        Err(Stopped) => Err(survey.fault),
+    }
 }

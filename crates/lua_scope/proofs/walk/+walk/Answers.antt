@@ -28,9 +28,11 @@ pub body-returns-clause-scope : goal.body-returns-clause-scope
 body-returns-clause-scope t c =
     let vs = map variable c.as_slice-2.result.now in
     let ls = (stats (map stat_part c.as_slice-3.result.now)).locals in
-    ap scope_of (c.in_ok-exit.ensures ∙ ap (λ o. exited o c.stats.new.survey) c.in_ok-outer.ensures.outer)
+    ap scope_of (c.in_ok-exit.ensures.exited ∙ ap (λ o. exited o c.stats.new.survey) c.in_ok-outer.ensures.outer)
     ∙ closed_scope c.args.survey.now c.stats.new.survey (vs ++ ls) (scope_of c.enter.new.self) (ap (λ x. map named_local x.locals) c.in_ok-outer.ensures.entered)
-    (c.in_ok-stats.ensures.scope ∙ ap (with_names ls) c.in_ok-declare_all.ensures.scope ∙ sym (with_both vs ls (scope_of c.enter.new.self)))
+    (c.in_ok-stats.ensures.scope
+    ∙ ap (with_names ls) (c.in_ok-declare_all.ensures.scope ∙ ap (λ x. with_names vs (scope_of x)) c.in_ok-announce_all.ensures.same)
+    ∙ sym (with_both vs ls (scope_of c.enter.new.self)))
 
 pub stat-returns-in_ok-expr-in-Repeat-clause-scope : goal.stat-returns-in_ok-expr-in-Repeat-clause-scope
 stat-returns-in_ok-expr-in-Repeat-clause-scope t c =

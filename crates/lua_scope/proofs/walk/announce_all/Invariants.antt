@@ -6,5 +6,6 @@ use Rattle.lua_scope.proofs.walk.announce_all.Given as goal
 abbrev pub invariant-loop-name : goal.invariant-loop-name
 invariant-loop-name l =
     (l.before ≡ l.name-index)
-    × (all_announced l.before (drop l.name-index l.names) l.survey ≡ all_announced 0 l.names l.survey)
-    × (all_declared l.before (drop l.name-index l.names) (scope_of l.survey) ≡ all_declared 0 l.names (scope_of l.survey))
+    × (l.survey ≡ l.initial.survey)
+    × (all_announced l.before (drop l.name-index l.names) l.survey ≡ all_announced 0 l.names l.initial.survey)
+    × (all_declared l.before (drop l.name-index l.names) (scope_of l.survey) ≡ all_declared 0 l.names (scope_of l.initial.survey))

@@ -6,5 +6,6 @@ use Rattle.lua_scope.proofs.walk.announce_locals.Given as goal
 abbrev pub invariant-loop-name : goal.invariant-loop-name
 invariant-loop-name l =
     (l.before ≡ l.name-index)
-    × (locals_announced l.before (drop l.name-index l.names) l.survey ≡ locals_announced 0 l.names l.survey)
-    × (locals_declared l.before (drop l.name-index l.names) (scope_of l.survey) ≡ locals_declared 0 l.names (scope_of l.survey))
+    × (l.survey ≡ l.initial.survey)
+    × (locals_announced l.before (drop l.name-index l.names) l.survey ≡ locals_announced 0 l.names l.initial.survey)
+    × (locals_declared l.before (drop l.name-index l.names) (scope_of l.survey) ≡ locals_declared 0 l.names (scope_of l.initial.survey))
