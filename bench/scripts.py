@@ -4,12 +4,14 @@
     bench/scripts.py [RUNS]
 
 Each script has at most 1,048,576 bytes. The time is the least of RUNS runs (10 where it is not given) by turns, with the output
-thrown away; the peak is the greatest resident memory of a run, where Debian's package time is installed.
+thrown away; the ratio is the middle of the ratios of neighbouring runs, which a busy machine moves less than a least time; the peak is
+the greatest resident memory of a run, where Debian's package time is installed.
 """
 import os
 import pathlib
 import random
 import shutil
+import statistics
 import subprocess
 import sys
 import tempfile
@@ -85,10 +87,10 @@ def shapes():
     ]
 
 
-def least(commands, runs):
-    """The least time of a run in seconds and the status, for each of the commands, which run by turns after a first run that does
-    not count. Ten seconds of runs are enough, but two of each are made at least."""
-    best, status, spent = [None] * len(commands), [None] * len(commands), 0
+def measured(commands, runs):
+    """The times in seconds and the status of the runs of each command, by turns after a first run that does not count. Ten seconds of
+    runs are enough, but two of each are made at least."""
+    times, status, spent = [[] for _ in commands], [None] * len(commands), 0
     for run in range(runs + 1):
         if 10 < spent and 3 <= run:
             break
@@ -98,8 +100,8 @@ def least(commands, runs):
             taken = time.perf_counter() - start
             spent += taken
             if 0 < run:
-                best[place] = taken if best[place] is None else min(best[place], taken)
-    return list(zip(best, status))
+                times[place].append(taken)
+    return list(zip(times, status))
 
 
 def peak(command):
@@ -127,12 +129,13 @@ def main():
             path = os.path.join(folder, "script.lua")
             pathlib.Path(path).write_text(text)
             commands = [[str(PROGRAM), path]] + ([[luac, "-p", path]] if luac else [])
-            (seconds, status), *peer = least(commands, runs)
-            line = f"{name}: {len(text)} bytes, {text.count(chr(10))} lines: {seconds * 1000:.1f} ms, status {status}"
+            (own, status), *peer = measured(commands, runs)
+            line = f"{name}: {len(text)} bytes, {text.count(chr(10))} lines: {min(own) * 1000:.1f} ms, status {status}"
             kilobytes = peak([str(PROGRAM), path])
             line += f", peak {kilobytes / 1024:.1f} MiB" if kilobytes else ""
-            for seconds, status in peer:
-                line += f"; luac5.4 -p {seconds * 1000:.1f} ms" + (f", status {status}" if status else "")
+            for times, status in peer:
+                ratio = statistics.median(one / other for one, other in zip(own, times))
+                line += f"; luac5.4 -p {min(times) * 1000:.1f} ms" + (f", status {status}" if status else f", ratio {ratio:.2f}")
             print(line)
 
 
