@@ -1,4 +1,4 @@
--- The loops of crates/table_speed in Lua: appends, reads by index, a walk, removals from the end, reads by one text key.
+-- The loops of crates/table_speed in Lua: appends, reads by index, a walk, removals from the end, reads by one text key, small tables.
 local n = tonumber(arg[1])
 local list, named = {}, { name = true }
 
@@ -22,4 +22,7 @@ local found = timed("text", function()
   for _ = 1, n do if named.name then count = count + 1 end end
   return count
 end)
+local named_tables, listed_tables = {}, {}
+timed("named", function() for i = 1, n do named_tables[i] = {x = 1, y = 2} end end)
+timed("listed", function() for i = 1, n do listed_tables[i] = {1, 2} end end)
 print(string.format("sum %d, met %d, left %d, found %d", sum, met, #list, found))

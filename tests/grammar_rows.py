@@ -1,7 +1,7 @@
 """Scripts, and what the grammar says of each: rules of the Lua 5.4 manual, sections 3.3, 3.4 and 9, cut as docs/LANGUAGE.md says.
 
 ACCEPTED are scripts, REFUSED are pairs of a script and 'LINE: TEXT' of its refusal. None comes from the program's own answers: they
-follow from the rules, and those without floats, goto, attributes and the limit of depth agree with the reference Lua.
+follow from the rules, and those without floats, attributes and the limit of depth agree with the reference Lua.
 """
 
 # The binary operators by precedence, from those that bind least; only `..` groups to the right.
@@ -81,6 +81,15 @@ ACCEPTED = [
     # ---- length deepens nothing
     "x = 1 " * 1000, "f(" + "1, " * 1000 + "1)", "x = {" + "1, " * 1000 + "}", "local " + "a, " * 100 + "a", "x" + ", x" * 1000 + " = 1",
     "return 1" + ", 1" * 1000, "do end " * 1000, "function f(" + "a, " * 100 + "...) end", "function a" + ".b" * 20 + "() end",
+    # ---- goto and labels
+    "goto x ::x::", "::x::", "::x:: goto x", "::x:: ::y::", "::x::;::y::", "; ::x:: ;", "goto x; ::x::", "goto x;; ::x::;", "goto\nx\n::\nx\n::",
+    "do goto x ::x:: end", "do goto x end ::x::", "while y do goto x ::x:: end", "repeat goto x ::x:: until y", "repeat ::x:: until y",
+    "if y then goto x end ::x::", "if y then goto x else goto x end ::x::", "if y then ::x:: goto x elseif z then end", "if y then elseif z then goto x ::x:: end",
+    "for i = 1, 2 do goto x ::x:: end", "for k in y do goto x ::x:: end", "function f() goto x ::x:: end", "local function f() ::x:: goto x end",
+    "x = function() goto y ::y:: end", "goto x (f)() ::x::", "goto x f() ::x::", "::x:: (f)()", "::x:: f()", "::x:: local y", "local y ::x::",
+    "f()::x::", "y = z::x::", "y = z ::x:: goto x", "local y = 1::x::", "::x:: return", "::x:: return 1;", "goto x ::x:: return", "while y do break goto x ::x:: end",
+    "while y do goto x break ::x:: end", "goto a ::a:: ::b:: goto b", "goto x ; ; ::x:: ; ;", "goto goto_ ::goto_::", "goto const ::const::",
+    "for i = 1, 3 do if i == 2 then goto continue end f(i) ::continue:: end", "goto x" + " ;" * 100 + " ::x::", "::x::" + " goto x" * 100,
     # ---- two kinds of names where one token later decides
     "for x = 1, 2 do end", "for x in y do end", "x = {y = 1}", "x = {y}", "local function x() end", "local x = 1",
 ]
@@ -91,16 +100,23 @@ REFUSED = [
     ("x = 1 +\n/ 2", "2: float operator"), ("/", "1: float operator"), ("^", "1: float operator"), ("x = /", "1: float operator"),
     ("x = (1)\n/ 2", "2: float operator"), ("x = f()\n^ 2", "2: float operator"), ("x = -2 ^ 2", "1: float operator"), ("local x\n/", "2: float operator"),
     ("x = 1\n/ 2 / 3", "2: float operator"), ("do\n/", "2: float operator"), ("f(\n^", "2: float operator"),
-    # ---- goto
-    ("goto x", "1: goto is not supported"), ("::x::", "1: goto is not supported"), ("x = 1\ngoto y", "2: goto is not supported"),
-    ("do\n::x:: end", "2: goto is not supported"), ("goto = 1", "1: goto is not supported"), ("x = goto", "1: goto is not supported"),
-    ("a\n::b", "2: goto is not supported"), ("local goto", "1: goto is not supported"), ("while x do\ngoto continue end", "2: goto is not supported"),
-    ("a.goto = 1", "1: goto is not supported"), ("return\n::x::", "2: goto is not supported"), ("return 1\ngoto x", "2: goto is not supported"),
+    # ---- goto and labels
+    ("goto", "1: unexpected end"), ("x = 1 goto", "1: unexpected end"), ("goto\n1", "2: unexpected '1'"), ("goto 'x'", "1: unexpected ''x''"),
+    ("goto\nend", "2: unexpected 'end'"), ("do goto end", "1: unexpected 'end'"), ("goto goto", "1: unexpected 'goto'"), ("goto = 1", "1: unexpected '='"),
+    ("goto x, y ::x::", "1: unexpected ','"), ("goto x.y ::x::", "1: unexpected '.'"), ("goto x\n= 1", "2: unexpected '='"), ("goto x\n()", "2: unexpected ')'"),
+    ("goto (x) ::x::", "1: unexpected '('"), ("goto ::x::", "1: unexpected '::'"), ("goto ; x ::x::", "1: unexpected ';'"), ("x = goto", "1: unexpected 'goto'"),
+    ("local goto", "1: unexpected 'goto'"), ("a.goto = 1", "1: unexpected 'goto'"), ("function goto() end", "1: unexpected 'goto'"), ("f(goto x)", "1: unexpected 'goto'"),
+    ("::", "1: unexpected end"), ("::x", "1: unexpected end"), ("::x:", "1: unexpected ':'"), ("::x: :", "1: unexpected ':'"), (": :x::", "1: unexpected ':'"),
+    ("::x\ny = 1", "2: unexpected 'y'"), ("::x.y::", "1: unexpected '.'"), ("::1::", "1: unexpected '1'"), ("::end::", "1: unexpected 'end'"), ("::goto::", "1: unexpected 'goto'"),
+    ("::::", "1: unexpected '::'"), ("::x::\n::", "2: unexpected end"), ("::x:: = 1", "1: unexpected '='"), ("a\n::b", "2: unexpected '::'"), ("::x, y::", "1: unexpected ','"),
+    ("return\n::x::", "2: unexpected '::'"), ("return 1\n::x::", "2: unexpected '::'"), ("return 1\ngoto x", "2: unexpected 'goto'"), ("return;\n::x::", "2: unexpected '::'"),
+    ("do return\n::x:: end", "2: unexpected '::'"), ("do\n::x end", "2: unexpected 'end'"), ("x = ::y::", "1: unexpected '::'"), ("goto x\n/", "2: float operator"),
+    ("goto\n^", "2: float operator"), ("::x\n/", "2: float operator"), ("if x then\n::y end", "2: unexpected 'end'"), ("break goto\nuntil x", "2: unexpected 'until'"),
     # ---- attributes
     ("local x <close> = 1", "1: unknown attribute"), ("local x <\nclose> = 1", "2: unknown attribute"), ("local x <Const>", "1: unknown attribute"),
     ("local x <foo>", "1: unknown attribute"), ("local x, y <\nclose>", "2: unknown attribute"), ("local x <const>, y <\nconstant>", "2: unknown attribute"),
     ("local x <const <", "1: unexpected '<'"), ("local x <'const'>", "1: unexpected ''const''"), ("local x <>", "1: unexpected '>'"),
-    ("local x <end>", "1: unexpected 'end'"), ("local x <goto>", "1: goto is not supported"), ("local x </>", "1: float operator"),
+    ("local x <end>", "1: unexpected 'end'"), ("local x <goto>", "1: unexpected 'goto'"), ("local x </>", "1: float operator"),
     ("local x <", "1: unexpected end"), ("local x <const", "1: unexpected end"), ("local x <const, y", "1: unexpected ','"),
     ("local x <const> <", "1: unexpected '<'"), ("local x <const>= 1", "1: unexpected '>='"), ("x <close>", "1: unexpected '<'"),
     ("local function f <const>", "1: unexpected '<'"), ("for x <const> = 1, 2 do end", "1: unexpected '<'"), ("local x <1>", "1: unexpected '1'"),
@@ -272,7 +288,7 @@ ROOM = [
     (59, "\nfunction", "2: nesting too deep"), (59, "local\nfunction", "2: nesting too deep"), (59, "return\nnil", "2: nesting too deep"), (59, "return\n...", "2: nesting too deep"), (59, "return\n(", "2: nesting too deep"),
     # what no script goes on with is no matter of depth
     (59, "\n)", "2: unexpected ')'"), (59, "\n= 1", "2: unexpected '='"), (59, "return\n)", "2: unexpected ')'"), (59, "local x <\nclose>", "2: unknown attribute"), (59, "\n/", "2: float operator"),
-    (59, "return\n^", "2: float operator"), (59, "\ngoto x", "2: goto is not supported"), (59, "return\n::", "2: goto is not supported"), (59, "\nelse", "2: unexpected 'else'"), (59, "local\n1", "2: unexpected '1'"),
+    (59, "return\n^", "2: float operator"), (59, "\ngoto 1", "2: unexpected '1'"), (59, "return\n::", "2: unexpected '::'"), (59, "goto x ::x::", None), (59, "::x:: goto x", None), (59, "::x::\ny", "2: nesting too deep"), (59, "\nelse", "2: unexpected 'else'"), (59, "local\n1", "2: unexpected '1'"),
     # room for a depth of one
     (58, "x = 1", None), (58, "x, y = 1, 2", None), (58, "return x, 1, 'a', nil, true, ...", None), (58, "local x = {}", None), (58, "do end", None), (58, "while x do end", None), (58, "while x do break end", None), (58, "local function f() end", None),
     (58, "for i = 1, 2 do end", None), (58, "for k, v in x, y do end", None), (58, "if x then elseif y then else end", None), (58, "repeat until x", None),

@@ -10,8 +10,8 @@ A case is a folder with any of these files:
     stdout, stderr  what must be written (nothing where they are missing)
     status          the exit status that is wanted (0 where it is missing)
 
-Each row of grammar_rows.py and of scope_rows.py is a case too: a script on standard input, which has no fault, or one with this
-line and text.
+Each row of grammar_rows.py, label_rows.py and scope_rows.py is a case too: a script on standard input, which has no fault, or one
+with this line and text.
 
 With --after LOG the counts of a run of `rt ci` in LOG are added.
 """
@@ -27,6 +27,7 @@ import tempfile
 
 sys.dont_write_bytecode = True
 import grammar_rows
+import label_rows
 import scope_rows
 
 TESTS = pathlib.Path(__file__).resolve().parent
@@ -90,7 +91,7 @@ def all_cases():
     """What is run, and what differs there, as lines."""
     for case in sorted(path for path in TESTS.iterdir() if path.is_dir()):
         yield f"tests/{case.name}", run(case)
-    for module in (grammar_rows, scope_rows):
+    for module in (grammar_rows, label_rows, scope_rows):
         rows = list(module.rows())
         with concurrent.futures.ThreadPoolExecutor(os.cpu_count()) as pool:
             for row, lines in zip(rows, pool.map(run_row, rows)):

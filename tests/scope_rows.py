@@ -301,7 +301,7 @@ EARLIER = [
     ("_ENV = 1\nx =", "2: unexpected end"),
     ("function f() return ... end\nx = 1 / 2", "2: float operator"),
     ("local c <const> = 1 c = 2\nlocal x <close> = 1", "2: unknown attribute"),
-    ("break\ngoto x", "2: goto is not supported"),
+    ("break\ngoto", "2: unexpected end"),
     ("break\nx = 1.5", "2: float numeral"),
     ("x = _ENV\ny = 'a", "2: unfinished string"),
     ("return _ENV\nx = 1", "2: unexpected 'x'"),

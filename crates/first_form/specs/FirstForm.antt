@@ -50,14 +50,18 @@ receive_text key = codes "print(l:receive(\"" ++ (key ++ codes "\"))")
 
 -- how a line is written
 abbrev pub IsLine : Line → List ℕ → Type 0
-IsLine (Send key value) line = (written : List ℕ) × IsKey key × Writes value written × (line ≡ send_text key written)
+IsLine (Send key value) line =
+    (written : List ℕ) × IsKey key × Writes value written × (line ≡ send_text key written)
 IsLine (Receive key) line = IsKey key × (line ≡ receive_text key)
 
--- the script begins with this line, and more stands after its end; the last line may lack its line feed
+-- the script begins with this line, and more stands after its end; the last line may lack its line
+-- feed
 abbrev pub BeginsWithLine : List ℕ → List ℕ → List ℕ → Type 0
 BeginsWithLine script line more = (script ≡ line ++ 10 ∷ more) ⊎ ((script ≡ line) × (more ≡ []))
 
 -- these are the lines of the text
 abbrev pub AreLines : List Line → List ℕ → Type 0
 AreLines [] text = text ≡ []
-AreLines (line ∷ lines) text = (written more : List ℕ) × IsLine line written × BeginsWithLine text written more × AreLines lines more
+AreLines (line ∷ lines) text =
+    (written more : List ℕ) × IsLine line written × BeginsWithLine text written more
+    × AreLines lines more

@@ -1,6 +1,7 @@
--- What a script of the first form does, said of its lines: what is sent to a key and received from it, which scripts are
--- balanced, what each receive line prints, and the calls that the lines make. No queue is in it.
-use Rattle.std.specs.Prelude.{◌≡◌, ◌<◌, ℕ, pos, suc, if◌then◌else◌, List, [], ◌∷◌, ◌++◌, length, ◌≤◌}
+-- What a script of the first form does, said of its lines: what is sent to a key and received from
+-- it, which scripts are balanced, what each receive line prints, and the calls that the lines make.
+-- No queue is in it.
+use Rattle.std.specs.Prelude.{◌≡◌, ◌<◌, ℕ, pos, suc, if◌then◌else◌, List, [], ◌∷◌, ◌++◌, length, map, ◌≤◌}
 use Rattle.std.specs.List.{slice_index_or}
 use Rattle.std.specs.Fmt.{signed_decimal}
 use Rattle.std.specs.Str.{bytes_eq}
@@ -12,7 +13,9 @@ use Rattle.linda_core.specs.declared.call.LindaOp.TheVariants.{Send as Sends, Re
 use Rattle.linda_core.specs.declared.call.LindaReply.{LindaReply}
 use Rattle.linda_core.specs.declared.call.LindaReply.TheVariants.{Sent, Got}
 use Rattle.linda_core.specs.declared.call.Ending.TheVariants.{Served}
-use Rattle.linda_core.specs.SequentialLinda.{Content, Steps}
+use Rattle.linda_core.specs.History as History
+use Rattle.linda_core.specs.History.{IsRun}
+use Rattle.linda_core.specs.SequentialLinda.{Content}
 use Rattle.first_form.specs.declared.line.Line.{Line}
 use Rattle.first_form.specs.declared.line.Line.TheVariants.{Send, Receive}
 use Rattle.first_form.specs.FirstForm.{script_limit, opening, BeginsWithLine, AreLines}
@@ -20,14 +23,16 @@ use Rattle.first_form.specs.FirstForm.{script_limit, opening, BeginsWithLine, Ar
 -- the values that the lines send to a key, in order
 abbrev pub sent_to : List ℕ → List Line → List Item
 sent_to key [] = []
-sent_to key (Send other value ∷ lines) = if bytes_eq key other then value ∷ sent_to key lines else sent_to key lines
+sent_to key (Send other value ∷ lines) =
+    if bytes_eq key other then value ∷ sent_to key lines else sent_to key lines
 sent_to key (Receive other ∷ lines) = sent_to key lines
 
 -- how many lines receive from a key
 abbrev pub received_from : List ℕ → List Line → ℕ
 received_from key [] = 0
 received_from key (Send other value ∷ lines) = received_from key lines
-received_from key (Receive other ∷ lines) = if bytes_eq key other then suc (received_from key lines) else received_from key lines
+received_from key (Receive other ∷ lines) =
+    if bytes_eq key other then suc (received_from key lines) else received_from key lines
 
 -- a receive line stands after more send lines of its key than receive lines of its key
 abbrev pub MayFollow : List Line → Line → Type 0
@@ -51,8 +56,8 @@ pub record IsFirstForm (script : List ℕ) (lines : List Line) : Type 0 where
 abbrev pub zero_item : Item
 zero_item = Int (pos 0)
 
--- the value that a receive line gets after these lines: that of the send line which has as many send lines of the key before
--- it as the receive line has receive lines
+-- the value that a receive line gets after these lines: that of the send line which has as many
+-- send lines of the key before it as the receive line has receive lines
 abbrev pub received : List Line → List ℕ → Item
 received before key = slice_index_or (sent_to key before) (received_from key before) zero_item
 
@@ -83,7 +88,10 @@ Call = BankCall × LindaReply
 
 abbrev pub call_by : List Line → Line → Call
 call_by before (Send key value) = (record { linda = 0; op = Sends (Named key) (value ∷ []) }, Sent)
-call_by before (Receive key) = (record { linda = 0; op = Receives (Named key ∷ []) }, Got (Named key) (received before key ∷ []))
+call_by before (Receive key) = (
+  record { linda = 0; op = Receives (Named key ∷ []) },
+  Got (Named key) (received before key ∷ []),
+)
 
 abbrev pub calls : List Line → List Line → List Call
 calls before [] = []
@@ -92,7 +100,9 @@ calls before (line ∷ lines) = call_by before line ∷ calls (before ++ line �
 abbrev pub calls_of : List Line → List Call
 calls_of lines = calls [] lines
 
+abbrev pub served : Call → History.Call
+served call = record { op = call.0.op; ending = Served; reply = call.1 }
+
 -- these calls, each served, are a run of the sequential linda
 abbrev pub IsServedRun : Content → List Call → Content → Type 0
-IsServedRun start [] end = end ≡ start
-IsServedRun start (call ∷ more) end = (next : Content) × Steps start call.0.op Served call.1 next × IsServedRun next more end
+IsServedRun start made end = IsRun start (map served made) end

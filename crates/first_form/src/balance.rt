@@ -42,7 +42,8 @@ fn count_at(waiting: &Waiting<'_>, key: &Bytes) -> usize
 }
 
 fn set_count<'a>(waiting: &mut Waiting<'a>, key: &'a Bytes, count: usize) -> Result<(), Memory>
-    ensures { OnOk result ((other : List ℕ) → waiting_at waiting.new.entries other ≡ (if bytes_eq key.now other then count else waiting_at waiting.old.entries other)) }
+    ensures { OnOk result ((other : List ℕ) → waiting_at waiting.new.entries other
+        ≡ (if bytes_eq key.now other then count else waiting_at waiting.old.entries other)) }
 {
     waiting.insert(key, count)?;
     Ok(())

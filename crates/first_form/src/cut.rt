@@ -8,14 +8,16 @@ ghost use Rattle.first_form.specs.Reading.{is_inline};
 
 /// What stands behind this start, if the text has it.
 pub fn without_start<'a>(text: &'a [u8], start: &[u8]) -> Option<&'a [u8]>
-    ensures { MatchOption result ((rest : List ℕ) → text.now ≡ start.now ++ rest → ⊥) (λ rest. text.now ≡ start.now ++ rest.now) }
+    ensures { MatchOption result ((rest : List ℕ) → text.now ≡ start.now ++ rest → ⊥)
+        (λ rest. text.now ≡ start.now ++ rest.now) }
 {
     text.strip_prefix(start)
 }
 
 /// What stands before this end, if the text has it.
 pub fn without_end<'a>(text: &'a [u8], end: &[u8]) -> Option<&'a [u8]>
-    ensures { MatchOption result ((front : List ℕ) → text.now ≡ front ++ end.now → ⊥) (λ front. text.now ≡ front.now ++ end.now) }
+    ensures { MatchOption result ((front : List ℕ) → text.now ≡ front ++ end.now → ⊥)
+        (λ front. text.now ≡ front.now ++ end.now) }
 {
     text.strip_suffix(end)
 }

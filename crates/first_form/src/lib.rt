@@ -1,4 +1,5 @@
-//! Scripts of the first form: a linda, values sent to keys, and values received and printed. They run until Lua itself does.
+//! Scripts of the first form: a linda, values sent to keys, and values received and printed. They
+//! run until Lua itself does.
 #![tactic(auto)]
 
 mod balance;

@@ -17,7 +17,8 @@ pub enum Line {
 
 /// The line that is written so, if one is.
 pub fn read_line(alloc: Global, text: &[u8]) -> Result<Option<Line>, Memory>
-    ensures { IfOk result (λ line. MatchOption line ((other : Line) → IsLine other text.now → ⊥) (λ found. IsLine found text.now)) }
+    ensures { IfOk result (λ line. MatchOption line ((other : Line) → IsLine other text.now → ⊥)
+        (λ found. IsLine found text.now)) }
 {
     if let Some(key) = received_key(text) {
         return Ok(Some(Line::Receive {
@@ -38,7 +39,8 @@ pub fn read_line(alloc: Global, text: &[u8]) -> Result<Option<Line>, Memory>
 
 // The key and the written value of a send line.
 fn sent_parts(text: &[u8]) -> Option<(&[u8], &[u8])>
-    ensures { MatchOption result ((key written : List ℕ) → IsKey key → text.now ≡ send_text key written → ⊥)
+    ensures { MatchOption result
+        ((key written : List ℕ) → IsKey key → text.now ≡ send_text key written → ⊥)
         (λ parts. IsKey parts.0.now × (text.now ≡ send_text parts.0.now parts.1.now)) }
 {
     let rest = without_start(text, b"l:send(\"")?;

@@ -14,9 +14,12 @@ pub const SCRIPT_LIMIT: usize = 1_048_576;
 
 const OPENING: &[u8] = b"local lanes = require \"lanes\" local l = lanes.linda()";
 
-/// The lines after the first, if the script is of the first form. The only refusal is want of memory.
+/// The lines after the first, if the script is of the first form. The only refusal is want of
+/// memory.
 pub fn lines_of(alloc: Global, script: &[u8]) -> Result<Option<Vec<Line>>, Memory>
-    ensures { IfOk result (λ lines. MatchOption lines ((other : List Line) → IsFirstForm script.now other → ⊥) (λ found. IsFirstForm script.now found.items)) }
+    ensures { IfOk result (λ lines. MatchOption lines
+        ((other : List Line) → IsFirstForm script.now other → ⊥)
+        (λ found. IsFirstForm script.now found.items)) }
 {
     if SCRIPT_LIMIT < script.len() {
         return Ok(None);
@@ -37,7 +40,9 @@ pub fn lines_of(alloc: Global, script: &[u8]) -> Result<Option<Vec<Line>>, Memor
 
 // The lines of which the text is made, if it is.
 fn read_lines(alloc: Global, text: &[u8]) -> Result<Option<Vec<Line>>, Memory>
-    ensures { IfOk result (λ lines. MatchOption lines ((other : List Line) → AreLines other text.now → ⊥) (λ found. AreLines found.items text.now)) }
+    ensures { IfOk result (λ lines. MatchOption lines
+        ((other : List Line) → AreLines other text.now → ⊥)
+        (λ found. AreLines found.items text.now)) }
 {
     let mut lines = Vec::new(alloc);
     let mut rest = text;

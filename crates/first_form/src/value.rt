@@ -16,7 +16,9 @@ const MOST_DIGITS: usize = 18;
 
 /// The value that is written so, if one is.
 pub fn read_value(alloc: Global, written: &[u8]) -> Result<Option<Item>, Memory>
-    ensures { IfOk result (λ value. MatchOption value ((other : Item) → Writes other written.now → ⊥) (λ found. Writes found written.now)) }
+    ensures { IfOk result (λ value. MatchOption value
+        ((other : Item) → Writes other written.now → ⊥)
+        (λ found. Writes found written.now)) }
 {
     if is_number(written) {
         return Ok(Some(Item::Int(number(written))));
@@ -28,7 +30,8 @@ pub fn read_value(alloc: Global, written: &[u8]) -> Result<Option<Item>, Memory>
 }
 
 fn is_number(written: &[u8]) -> bool
-    ensures { IsTrue result ↔ ((0 < length written.now) × (length written.now ≤ 18) × (list_all is_ascii_digit written.now ≡ true)) }
+    ensures { IsTrue result ↔ ((0 < length written.now) × (length written.now ≤ 18)
+        × (list_all is_ascii_digit written.now ≡ true)) }
 {
     !written.is_empty() && written.len() <= MOST_DIGITS && are_digits(written)
 }
@@ -62,7 +65,8 @@ fn with_digit(value: u64, digit: u8) -> u64
 
 // The text between the quotes.
 fn quoted(written: &[u8]) -> Option<&[u8]>
-    ensures { MatchOption result ((text : List ℕ) → IsQuoted text written.now → ⊥) (λ text. IsQuoted text.now written.now) }
+    ensures { MatchOption result ((text : List ℕ) → IsQuoted text written.now → ⊥)
+        (λ text. IsQuoted text.now written.now) }
 {
     let rest = without_start(written, b"\"")?;
     let text = without_end(rest, b"\"")?;

@@ -7,7 +7,7 @@ use Rattle.std.proofs.lemmas.Bool.{lt-ltb, le-ltb, lt-leb}
 use Rattle.int_ops.specs.Reading.{digit_of, number_after, are_digits, number_in}
 use Rattle.int_ops.specs.View.{small}
 
--- the number that the digits write behind n, modulo 2^64, if they are digits
+-- the number that the digits write after n, modulo 2^64, if they are digits
 abbrev pub rest_of : ℕ → ℕ → List ℕ → Option ℕ
 rest_of base n bs = if are_digits base bs then Some (number_after base n bs % 2 ^ 64) else None
 
@@ -43,7 +43,7 @@ rest_more base n m v b bs e f g = rw e (rw (lt-ltb (digit_of b) base f) (rest_sa
 
 pub ruleset number_rules = (rest_whole, rest_end, rest_bad, rest_more)
 
--- the number that the digits write behind n, if they are decimal digits and it is at most 2^63
+-- the number that the digits write after n, if they are decimal digits and it is at most 2^63
 abbrev pub small_rest : ℕ → List ℕ → Option ℕ
 small_rest n bs = if are_digits 10 bs then small (Some (number_after 10 n bs)) else None
 

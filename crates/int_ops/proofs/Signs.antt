@@ -1,4 +1,4 @@
--- Numbers behind a sign.
+-- Numbers after a sign.
 use Rattle.std.proofs.Common.{◌≡◌, refl, sym, ◌∙◌, ap, ℕ, zero, suc, ◌-◌, ◌%◌, ◌^◌, ◌≤◌, ◌<◌, Bool, true, false, if◌then◌else◌, nat_le, Option, Some, None, arith}
 use Rattle.std.specs.Prelude.{ℤ, pos, negsuc, neg_ℤ, ◌-ℤ◌, option_map, FitsSigned}
 use Rattle.std.specs.Int.{w64, cast_signed, int_wrap}

@@ -27,7 +27,7 @@ digit_of b =
     else (if nat_le 97 b && nat_le b 122 then b - 87
     else (if nat_le 65 b && nat_le b 90 then b - 55 else 36))
 
--- the number that the digits go on to write behind those of n
+-- the number that the digits go on to write after those of n
 abbrev pub number_after : ℕ → ℕ → List ℕ → ℕ
 number_after base n [] = n
 number_after base n (b ∷ bs) = number_after base (n * base + digit_of b) bs
@@ -38,14 +38,15 @@ are_digits base bs = list_all (λ b. nat_lt (digit_of b) base) bs
 -- the number that one or more digits of this base write
 abbrev pub number_in : ℕ → List ℕ → Option ℕ
 number_in base [] = None
-number_in base (b ∷ bs) = if are_digits base (b ∷ bs) then Some (number_after base 0 (b ∷ bs)) else None
+number_in base (b ∷ bs) =
+    if are_digits base (b ∷ bs) then Some (number_after base 0 (b ∷ bs)) else None
 
--- n, or -n behind a minus sign
+-- n, or -n after a minus sign
 abbrev pub signed : Bool → ℕ → ℤ
 signed false n = pos n
 signed true n = neg_ℤ (pos n)
 
--- whether the text begins with `-`, and what stands behind its sign, if it has one
+-- whether the text begins with `-`, and what stands after its sign, if it has one
 abbrev pub is_minus : List ℕ → Bool
 is_minus [] = false
 is_minus (b ∷ bs) = nat_eq b 45
@@ -56,7 +57,9 @@ past_sign (b ∷ bs) = if nat_eq b 45 || nat_eq b 43 then bs else b ∷ bs
 
 -- a sign or none, and one or more digits of the base, with blanks round them: the value modulo 2^64
 unfoldable pub integer_in : ℕ → List ℕ → Option ℤ
-integer_in base text = let core = trimmed text in option_map (λ n. wrapped (signed (is_minus core) n)) (number_in base (past_sign core))
+integer_in base text =
+    let core = trimmed text in option_map (λ n. wrapped (signed (is_minus core) n))
+    (number_in base (past_sign core))
 
 -- the greatest size that a decimal numeral with or without a minus may have
 abbrev pub limit : Bool → ℕ
@@ -66,7 +69,7 @@ abbrev pub within : Bool → Option ℕ → Option ℤ
 within minus None = None
 within minus (Some n) = if nat_le n (limit minus) then Some (signed minus n) else None
 
--- what stands behind `0x` or `0X`, if the text begins so
+-- what stands after `0x` or `0X`, if the text begins so
 abbrev pub past_hex : List ℕ → Option (List ℕ)
 past_hex [] = None
 past_hex (b ∷ []) = None
@@ -77,6 +80,8 @@ abbrev pub unsigned : Bool → List ℕ → Option (List ℕ) → Option ℤ
 unsigned minus bs (Some digits) = option_map (λ n. wrapped (signed minus n)) (number_in 16 digits)
 unsigned minus bs None = within minus (number_in 10 bs)
 
--- the integer that a text reads as: a sign or none, and a hexadecimal or decimal numeral, with blanks round them
+-- the integer that a text reads as: a sign or none, and a hexadecimal or decimal numeral, with
+-- blanks round them
 unfoldable pub integer_of : List ℕ → Option ℤ
-integer_of text = let core = trimmed text in unsigned (is_minus core) (past_sign core) (past_hex (past_sign core))
+integer_of text =
+    let core = trimmed text in unsigned (is_minus core) (past_sign core) (past_hex (past_sign core))

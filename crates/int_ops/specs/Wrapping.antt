@@ -1,4 +1,5 @@
--- Whole numbers of 64 bits (Lua manual, sections 3.4.1 and 3.4.2): each operation is that of the integers without bound, brought modulo 2^64 into the range from -2^63 to 2^63 - 1.
+-- Whole numbers of 64 bits (Lua manual, sections 3.4.1 and 3.4.2): each operation is that of the
+-- integers without bound, brought modulo 2^64 into the range from -2^63 to 2^63 - 1.
 use Rattle.std.specs.Prelude.{ℕ, zero, suc, ◌+◌, ◌-◌, ◌*◌, ◌/◌, ◌%◌, ◌^◌, ℤ, pos, negsuc, neg_ℤ, ◌-ℤ◌, ◌*ℤ◌, ◌≤ℤ◌, ◌<ℤ◌, nat_lt, if◌then◌else◌, Bool, true, false}
 use Rattle.std.specs.Int.{w64, cast_unsigned, cast_signed, int_wrap}
 

@@ -30,7 +30,8 @@ pub fn mul(a: i64, b: i64) -> i64
     a.wrapping_mul(b)
 }
 
-/// The number with the other sign, brought modulo 2^64 into the range of 64 bits: that of -2^63 is itself.
+/// The number with the other sign, brought modulo 2^64 into the range of 64 bits: that of -2^63 is
+/// itself.
 #[inline]
 #[tactic(auto, using(crate::proofs::Wraps::wrap_rules))]
 pub fn neg(a: i64) -> i64

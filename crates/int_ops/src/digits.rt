@@ -76,7 +76,7 @@ pub fn trimmed(text: &[u8]) -> &[u8]
     core
 }
 
-/// Whether the text begins with `-`, and what stands behind its sign.
+/// Whether the text begins with `-`, and what stands after its sign.
 pub fn split_sign(text: &[u8]) -> (bool, &[u8])
     ensures minus { result.0 ≡ spec.is_minus text.now }
     ensures rest { result.1.now ≡ spec.past_sign text.now }
@@ -93,7 +93,7 @@ pub fn split_sign(text: &[u8]) -> (bool, &[u8])
     }
 }
 
-/// The digits behind `0x` or `0X`, if the text begins so.
+/// The digits after `0x` or `0X`, if the text begins so.
 pub fn past_hex(text: &[u8]) -> Option<&[u8]>
     ensures { seen_bytes result ≡ spec.past_hex text.now }
 {

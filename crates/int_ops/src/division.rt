@@ -31,7 +31,8 @@ fn cut_rest(a: i64, b: i64) -> i64
     a % b
 }
 
-/// Whether a quotient that is cut towards 0 is above its floor: something is left, with the other sign than the divisor.
+/// Whether a quotient that is cut towards 0 is above its floor: something is left, with the other
+/// sign than the divisor.
 #[inline]
 fn is_above_floor(rest: i64, divisor: i64) -> bool
     ensures { result ≡ is_cut_upwards rest divisor }
@@ -39,8 +40,8 @@ fn is_above_floor(rest: i64, divisor: i64) -> bool
     rest != 0 && (rest < 0) != (divisor < 0)
 }
 
-/// The quotient, rounded towards minus infinity and brought into range: only that of -2^63 by -1 isn't there already. It is
-/// refused exactly where the divisor is 0 (manual, section 3.4.1).
+/// The quotient, rounded towards minus infinity and brought into range: only that of -2^63 by -1
+/// isn't there already. It is refused exactly where the divisor is 0 (manual, section 3.4.1).
 #[inline]
 #[tactic(auto, using(crate::proofs::Floors::floor_rules))]
 pub fn floor_div(a: i64, b: i64) -> Result<i64, ZeroDivisor>
@@ -61,8 +62,8 @@ pub fn floor_div(a: i64, b: i64) -> Result<i64, ZeroDivisor>
     }
 }
 
-/// What is left of a number after that many divisors as its floor quotient says: it has the divisor's sign, or is 0. It is
-/// refused exactly where the divisor is 0 (manual, section 3.4.1).
+/// What is left of a number after that many divisors as its floor quotient says: it has the
+/// divisor's sign, or is 0. It is refused exactly where the divisor is 0 (manual, section 3.4.1).
 #[inline]
 #[tactic(auto, using(crate::proofs::Floors::floor_rules))]
 pub fn floor_mod(a: i64, b: i64) -> Result<i64, ZeroDivisor>
@@ -83,8 +84,8 @@ pub fn floor_mod(a: i64, b: i64) -> Result<i64, ZeroDivisor>
     }
 }
 
-/// The floor quotient of any two integers, in range or not, is the one integer for which this holds: that many divisors are
-/// left with less than one more, on the divisor's side of 0.
+/// The floor quotient of any two integers, in range or not, is the one integer for which this
+/// holds: that many divisors are left with less than one more, on the divisor's side of 0.
 #[tactic(auto, using(crate::proofs::Floors::is_floor))]
 pub fn floor_law()
     ensures { (a b : ℤ) → b ≢ pos 0 → IsFloor a b (floor_quotient a b) }

@@ -1,5 +1,5 @@
-//! Whole numbers of 64 bits: arithmetic that wraps, quotients that are floors, shifts and bits, and the texts that numbers
-//! are read from and written as (Lua manual, sections 3.4.1 to 3.4.3).
+//! Whole numbers of 64 bits: arithmetic that wraps, quotients that are floors, shifts and bits, and
+//! the texts that numbers are read from and written as (Lua manual, sections 3.4.1 to 3.4.3).
 #![tactic(auto)]
 
 mod arithmetic;
@@ -8,8 +8,6 @@ mod digits;
 mod division;
 mod reading;
 mod shifts;
-#[cfg(test)]
-mod tests;
 mod text;
 
 pub use arithmetic::{add, mul, neg, sub};

@@ -20,11 +20,12 @@ fn wrap(minus: bool, number: u64) -> i64
     }
 }
 
-/// Digits of a base behind a sign.
+/// Digits of a base after a sign.
 #[tactic(auto, using(crate::proofs::Signs::sign_rules))]
 fn wrapped_in(minus: bool, base: u32, digits: &[u8]) -> Option<i64>
     requires { base ≤ 36 }
-    ensures { result ≡ option_map (λ n. wrapped (spec.signed minus n)) (spec.number_in base digits.now) }
+    ensures { result
+        ≡ option_map (λ n. wrapped (spec.signed minus n)) (spec.number_in base digits.now) }
 {
     match number_in(base, digits) {
         Some(number) => Some(wrap(minus, number)),
@@ -32,7 +33,7 @@ fn wrapped_in(minus: bool, base: u32, digits: &[u8]) -> Option<i64>
     }
 }
 
-/// Decimal digits behind a sign, of a value in range.
+/// Decimal digits after a sign, of a value in range.
 #[tactic(auto, using(crate::proofs::Signs::decimal_rules))]
 fn decimal(minus: bool, digits: &[u8]) -> Option<i64>
     ensures { result ≡ spec.within minus (spec.number_in 10 digits.now) }
@@ -49,9 +50,9 @@ fn decimal(minus: bool, digits: &[u8]) -> Option<i64>
     }
 }
 
-/// The integer that a text reads as: with blanks round it, a sign or none, and `0x` or `0X` with hexadecimal digits, of a
-/// value modulo 2^64, or decimal digits, of a value in range. None exactly where the text doesn't read as an integer
-/// (manual, sections 3.1 and 3.4.3).
+/// The integer that a text reads as: with blanks round it, a sign or none, and `0x` or `0X` with
+/// hexadecimal digits, of a value modulo 2^64, or decimal digits, of a value in range. None exactly
+/// where the text doesn't read as an integer (manual, sections 3.1 and 3.4.3).
 #[tactic(auto, unfolding(crate::specs::Reading::integer_of))]
 pub fn read_integer(text: &[u8]) -> Option<i64>
     ensures { result ≡ spec.integer_of text.now }
@@ -63,8 +64,9 @@ pub fn read_integer(text: &[u8]) -> Option<i64>
     }
 }
 
-/// The integer that a text is in a base: with blanks round it, a sign or none, and one or more digits or letters below the
-/// base, of a value modulo 2^64. None exactly where the text is no such thing (manual, section 6.1, `tonumber`).
+/// The integer that a text is in a base: with blanks round it, a sign or none, and one or more
+/// digits or letters below the base, of a value modulo 2^64. None exactly where the text is no such
+/// thing (manual, section 6.1, `tonumber`).
 #[tactic(auto, unfolding(crate::specs::Reading::integer_in))]
 pub fn read_in_base(text: &[u8], base: u32) -> Option<i64>
     requires low { 2 ≤ base }

@@ -26,8 +26,8 @@ fn down(a: i64, count: u64) -> i64
     }
 }
 
-/// The 64 bits moved up by a count of 0 or more, or down by a negative count. Zeros come in, and all bits are lost where the
-/// count is 64 or more either way (manual, section 3.4.2).
+/// The 64 bits moved up by a count of 0 or more, or down by a negative count. Zeros come in, and
+/// all bits are lost where the count is 64 or more either way (manual, section 3.4.2).
 #[inline]
 pub fn shift_left(a: i64, n: i64) -> i64
     ensures { result ≡ spec.shifted_left a n }
@@ -39,8 +39,8 @@ pub fn shift_left(a: i64, n: i64) -> i64
     }
 }
 
-/// The 64 bits moved down by a count of 0 or more, or up by a negative count. Zeros come in, and all bits are lost where the
-/// count is 64 or more either way (manual, section 3.4.2).
+/// The 64 bits moved down by a count of 0 or more, or up by a negative count. Zeros come in, and
+/// all bits are lost where the count is 64 or more either way (manual, section 3.4.2).
 #[inline]
 pub fn shift_right(a: i64, n: i64) -> i64
     ensures { result ≡ spec.shifted_right a n }

@@ -7,8 +7,8 @@ use itoa::Buffer;
 use lanes_arena::{Bytes, Memory};
 use std::alloc::Global;
 
-/// The decimal text: digits, behind a minus where the number is below 0. The only refusal is want of memory (manual, section
-/// 3.4.3).
+/// The decimal text: digits, after a minus where the number is below 0. The only refusal is want of
+/// memory (manual, section 3.4.3).
 pub fn text_of(alloc: Global, a: i64) -> Result<Bytes, Memory>
     ensures { IfOk result (λ text. text ≡ signed_decimal a) }
 {

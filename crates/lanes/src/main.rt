@@ -1,4 +1,5 @@
-//! The program `lanes`: it hands the words, the script and the standard streams to the top call, and ends with its status.
+//! The program `lanes`: it hands the words, the script and the standard streams to the top call,
+//! and ends with its status.
 #![tactic(auto)]
 
 use lanes_program::{run_lanes, script_word};

@@ -1,5 +1,5 @@
 -- Texts that are kept as the parts f of other values.
-use Rattle.std.proofs.Common.{inl, inr, ◌≡◌, ◌∙◌, ℕ, ◌+◌, ◌<◌, suc, slice_get, get_or, arith, Decides, Bool, true, false, cond, not, if◌then◌else◌, nat_lt, List, [], ◌∷◌, ◌++◌, map, length, position, Option, None, Some, refl, ap, sym, ◌||◌}
+use Rattle.std.proofs.Common.{inl, inr, ◌≡◌, ◌∙◌, ℕ, ◌+◌, ◌<◌, suc, slice_get, get_or, arith, Decides, Bool, true, false, cond, not, if◌then◌else◌, nat_lt, List, [], ◌∷◌, ◌++◌, map, length, position, Option, None, Some, IsSome, refl, ap, sym, subst, true≢false, ◌||◌}
 use Rattle.std.specs.List.{list_any, position_or_len, IsDistinct, AllByRecursion}
 use Rattle.std.specs.Option.{unwrap_or}
 use Rattle.std.specs.Str.{bytes_eq}
@@ -116,3 +116,11 @@ one_number texts i j text distinct at_i at_j =
 -- a new text is at its number
 pub held_new : (texts : List (List ℕ)) (text : List ℕ) (news : List (List ℕ)) (i : ℕ) → news ≡ named texts text → i ≡ number_of texts text → slice_get news i ≡ Some text
 held_new texts text news i made at = ap (λ l. slice_get l i) made ∙ ap (slice_get (named texts text)) at ∙ named_text texts text
+
+-- a text that was not found is not held
+pub not_held : (r q : Option ℕ) → ((i : ℕ) → r ≡ Some i → ⊥) → r ≡ q → IsSome q → ⊥
+not_held r q none same there = by r none (subst IsSome (sym same) there)
+  where
+    by : (r : Option ℕ) → ((i : ℕ) → r ≡ Some i → ⊥) → IsSome r → ⊥
+    by None h some = true≢false (sym some)
+    by (Some i) h some = h i refl

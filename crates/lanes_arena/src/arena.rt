@@ -1,5 +1,6 @@
 //! Values of one type, by number.
 ghost use Rattle.std.specs.Prelude.{◌≡◌, ◌↔◌, ◌+◌, ◌-◌, ◌<◌, ◌≤◌, ◌^◌, ◌++◌, ◌∷◌, [], length, max, slice_get, Some, OnOk, OnErr};
+ghost use Rattle.std.specs.Option.{option_copied, option_copied_mut};
 ghost use Rattle.std.specs.Borrow.{sem};
 
 use crate::Id;
@@ -18,8 +19,8 @@ pub enum ArenaFault {
     Memory,
 }
 
-/// Values by number, and a count of those that can still be added without a refusal. Contracts see the list of the
-/// values and that count, `spare`. `K` is the kind that its ids name.
+/// Values by number, and a count of those that can still be added without a refusal. Contracts see
+/// the list of the values and that count, `spare`. `K` is the kind that its ids name.
 #[derive(Drop)]
 pub struct Arena<T, K = T> {
     items: Vec<T>,
@@ -35,11 +36,12 @@ impl<T, K> Model for Arena<T, K> {
 
     ghost view = { λ a. record { items = a.items.items; spare = a.spare } };
 
-    ghost invariant = { λ a. (vec_len a.items + a.spare ≤ 2 ^ 32 - 1) × (vec_len a.items + a.spare ≤ vec_capacity a.items) };
+    ghost invariant = { λ a. (vec_len a.items + a.spare ≤ 2 ^ 32 - 1)
+        × (vec_len a.items + a.spare ≤ vec_capacity a.items) };
 }
 
 impl<T, K> Arena<T, K> {
-    ghost use Rattle.lanes_arena.specs.LendsValue.{lends_value};
+    ghost use Rattle.lanes_arena.specs.LendsValue.{lends_value, lends_found};
 
     /// An arena without values, which takes no memory.
     pub fn new(alloc: Global) -> Arena<T, K>
@@ -63,7 +65,8 @@ impl<T, K> Arena<T, K> {
         self.items.len() as u32
     }
 
-    /// Makes room for `n` more values. `Full` comes first, and where `n` more would be more than 2^32 - 1.
+    /// Makes room for `n` more values. `Full` comes first, and where `n` more would be more than
+    /// 2^32 - 1.
     pub fn reserve(&mut self, n: usize) -> Result<(), ArenaFault>
         ensures items { self.new.items ≡ self.old.items }
         ensures ok { OnOk result (self.new.spare ≡ max n self.old.spare) }
@@ -93,7 +96,7 @@ impl<T, K> Arena<T, K> {
         ensures items { self.new.items ≡ self.old.items ++ value ∷ [] }
         ensures spare { self.new.spare ≡ self.old.spare - 1 }
     {
-        let number = self.items.len() as u32;
+        let number = self.items.len() as u64;
         self.items.push_reserved(value);
         self.spare -= 1;
         Id {
@@ -119,5 +122,33 @@ impl<T, K> Arena<T, K> {
         ensures value { slice_get self.old.items id.number ≡ Some result.now }
     {
         &mut self.items[id.number as usize]
+    }
+
+    /// The value of this number, where there is one.
+    #[inline]
+    pub fn find(&self, id: Id<K>) -> Option<&T>
+        ensures { option_copied result ≡ slice_get self.now.items id.number }
+    {
+        self.items.get(id.number as usize)
+    }
+
+    /// The value of this number, where there is one, for writing.
+    #[inline]
+    pub fn find_mut(&mut self, id: Id<K>) -> Option<&mut T>
+        ensures* writes_back { sem 𝓛 (lends_found T.row K.row self.entry id.number result) }
+        ensures value { option_copied_mut result ≡ slice_get self.old.items id.number }
+    {
+        self.items.get_mut(id.number as usize)
+    }
+
+    /// The id of the value that is added once `n` more were added.
+    #[inline]
+    pub fn id_ahead(&self, n: u32) -> Id<K>
+        ensures { result.number ≡ length self.now.items + n }
+    {
+        Id {
+            number: self.len() as u64 + n as u64,
+            kind: PhantomData,
+        }
     }
 }

@@ -13,8 +13,8 @@ use std::hash::{Hash, Hasher};
 use std::marker::Model;
 use std::sync::ArcSlice;
 
-/// A text of any bytes, which need not be UTF-8. Contracts see the list of its bytes. It is a range of bytes that never change,
-/// so copies and parts of it share them, in any threads.
+/// A text of any bytes, which need not be UTF-8. Contracts see the list of its bytes. It is a range
+/// of bytes that never change, so copies and parts of it share them, in any threads.
 #[derive(Drop)]
 pub struct Bytes {
     shared: ArcSlice<u8>,
@@ -33,7 +33,8 @@ impl Model for Bytes {
 
     ghost view = { λ text. take text.size (drop text.start (arc_slice_items text.shared)) };
 
-    ghost invariant = { λ text. (text.start + text.size ≤ length (arc_slice_items text.shared)) × (length (arc_slice_items text.shared) < 2 ^ 32) };
+    ghost invariant = { λ text. (text.start + text.size ≤ length (arc_slice_items text.shared))
+        × (length (arc_slice_items text.shared) < 2 ^ 32) };
 }
 
 impl Bytes {
@@ -44,7 +45,8 @@ impl Bytes {
         Bytes::from_vec(bytes.to_vec(alloc)?)
     }
 
-    /// The text of these bytes, which are not copied. It is refused for want of memory, and above 4,294,967,295 bytes.
+    /// The text of these bytes, which are not copied. It is refused for want of memory, and above
+    /// 4,294,967,295 bytes.
     pub fn from_vec(bytes: Vec<u8>) -> Result<Bytes, AllocError>
         ensures { IfOk result (λ text. text ≡ bytes.items) }
     {
@@ -66,7 +68,8 @@ impl Bytes {
         &self.shared.as_slice()[start..start + self.size as usize]
     }
 
-    /// The bytes from one offset up to another. They are shared with this text. The only refusal is of more than 2^63 shares.
+    /// The bytes from one offset up to another. They are shared with this text. The only refusal is
+    /// of more than 2^63 shares.
     #[tactic(auto, using(crate::proofs::Parts::part_rules))]
     pub fn part(&self, start: usize, end: usize) -> Result<Bytes, AllocError>
         requires order { start ≤ end }
@@ -80,7 +83,8 @@ impl Bytes {
         })
     }
 
-    /// A second text of the same bytes, which it shares with this one. The only refusal is of more than 2^63 shares.
+    /// A second text of the same bytes, which it shares with this one. The only refusal is of more
+    /// than 2^63 shares.
     pub fn copy(&self) -> Result<Bytes, AllocError>
         ensures { IfOk result (λ text. text ≡ self.now) }
     {

@@ -17,6 +17,3 @@ pub use row::Row;
 
 /// Want of memory, under the name that every crate of this project uses.
 pub use std::alloc::AllocError as Memory;
-
-#[cfg(test)]
-mod tests;

@@ -1,6 +1,6 @@
 //! Texts by number, each once.
-ghost use Rattle.std.specs.Prelude.{◌≡◌, [], ◌<◌, length, slice_get, Some, IfOk, OnOk, OnErr};
-ghost use Rattle.std.specs.Option.{option_map};
+ghost use Rattle.std.specs.Prelude.{◌≡◌, [], ◌<◌, length, slice_get, Some, IsSome, IsOk, IfOk, OnOk, OnErr};
+ghost use Rattle.std.specs.Option.{option_map, option_copied};
 ghost use Rattle.std.specs.List.{IsDistinct};
 ghost use Rattle.std.specs.Str.{bytes_eq};
 ghost use Rattle.lanes_arena.specs.Names.{named, number_of, found};
@@ -17,6 +17,14 @@ pub struct NameId {
 }
 
 impl NameId {
+    /// The id of this number. It names a text where there are more texts than the number.
+    #[inline]
+    pub fn at(number: u64) -> NameId
+        ensures { result.number ≡ number }
+    {
+        NameId { number }
+    }
+
     /// The number, counted from 0 in the order in which the texts were first named.
     #[inline]
     pub fn number(self) -> u64
@@ -26,7 +34,8 @@ impl NameId {
     }
 }
 
-/// Texts in the order in which they were first named, each once. Contracts see the list of the texts.
+/// Texts in the order in which they were first named, each once. Contracts see the list of the
+/// texts.
 #[derive(Drop)]
 pub struct Names {
     texts: IndexSet<Vec<u8>>,
@@ -55,12 +64,16 @@ impl Names {
         }
     }
 
-    /// The number of a text, which is added last where it is new. The only refusal is want of memory.
+    /// The number of a text, which is added last where it is new. The only refusal is want of
+    /// memory.
     pub fn name(&mut self, text: &[u8]) -> Result<NameId, Memory>
         ensures number { IfOk result (λ id. id.number ≡ number_of self.old text.now) }
         ensures texts { OnOk result (self.new ≡ named self.old text.now) }
         ensures held { IfOk result (λ id. slice_get self.new id.number ≡ Some text.now) }
         ensures err { OnErr result (self.new ≡ self.old) }
+
+        // Only a new text can be refused.
+        ensures succeeds { IsSome (found self.old text.now) → IsOk result }
         ensures distinct { IsDistinct bytes_eq self.new }
     {
         let _len = self.texts.len();
@@ -97,5 +110,16 @@ impl Names {
     {
         let _len = self.texts.len();
         self.texts.get_index(id.number as usize).unwrap().as_slice()
+    }
+
+    /// The text of this number, where there is one.
+    #[inline]
+    pub fn text_of(&self, id: NameId) -> Option<&[u8]>
+        ensures { option_copied result ≡ slice_get self.now id.number }
+    {
+        match self.texts.get_index(id.number as usize) {
+            Some(text) => Some(text.as_slice()),
+            None => None,
+        }
     }
 }

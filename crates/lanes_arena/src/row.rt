@@ -5,8 +5,8 @@ use crate::Memory;
 use std::alloc::Global;
 use std::marker::Model;
 
-/// A list of values over a `Vec`. Contracts see the list, and neither a capacity nor a pointer, so that two rows can be
-/// compared.
+/// A list of values over a `Vec`. Contracts see the list, and neither a capacity nor a pointer, so
+/// that two rows can be compared.
 #[derive(Debug, Drop)]
 pub struct Row<T> {
     items: Vec<T>,

@@ -22,10 +22,10 @@ use Rattle.first_form.specs.declared.line.Line.{Line}
 use Rattle.first_form.specs.Outcome.{IsFirstForm}
 use Rattle.lanes_program.specs.declared.run.End.{End}
 use Rattle.lanes_program.specs.declared.run.End.TheVariants as end
-use Rattle.lanes_program.specs.Reading.{Gave}
+use Rattle.lanes_program.specs.Reading.{GaveScript}
 use Rattle.lanes_program.specs.Refusals.{IsParsed, IsBound, IsUnscoped, Refuses, IsRefused}
 
-pub refused_here : (old new : Option (List ℕ)) (script : List ℕ) (refusal : Refusal) → Gave old new script → Refuses script refusal → IsRefused old new refusal
+pub refused_here : (old new : Option (List ℕ)) (script : List ℕ) (refusal : Refusal) → GaveScript old new script → Refuses script refusal → IsRefused old new refusal
 refused_here old new script TooLong gave refuses = absurd refuses
 refused_here old new script (Lexical fault) gave refuses = (script, gave, refuses)
 refused_here old new script (Grammatical fault bytes) gave refuses = (script, gave, refuses)
@@ -46,12 +46,7 @@ not_built script text found (Scoped fault) e bound k o is = cc
 -- ---- rules of scope
 
 pub told : (first : Option ScopeFault) (fault : ScopeFault) → Tells {X = Bindings} first (Err fault) → (fault ≡ scope.Memory → ⊥) → first ≡ Some fault
-told first (scope.ConstAssigned p) h other = h
-told first (scope.BreakOutside p) h other = h
-told first (scope.VarargOutside p) h other = h
-told first (scope.TooManyLocals p) h other = h
-told first (scope.EnvName p) h other = h
-told first scope.Memory h other = absurd (other refl)
+told first fault h other = h other
 
 abbrev parsed_script : (script : List ℕ) (tokens : List Token) (tree : Tree) → Lexes script (marks tokens) → Answers tokens (Ok tree) → IsParsed script
 parsed_script script tokens tree lexes answers = record { tokens = tokens; tree = tree; lexes = lexes; spells = answers.0; shallow = answers.1 }

@@ -1,6 +1,7 @@
 -- A run of lines, line by line.
 use Rattle.std.proofs.Common.{◌≡◌, ◌<◌, ◌≤◌, ◌+◌, ℕ, true, List, [], ◌∷◌, ◌++◌, length, take, drop, get_or, Option, None, Some, ap, sym, refl, subst, ◌∙◌, arith, append_assoc, append-nil, take-append-drop}
 use Rattle.std.proofs.lemmas.List.{take_all}
+use Rattle.std.proofs.Math.Seq.{take-append_seam}
 use Rattle.std.proofs.KnownBytes.{Appends-trans}
 use Rattle.std.specs.Io.KnownBytes.{Appends}
 use Rattle.linda_core.specs.declared.call.LindaReply.{LindaReply}
@@ -28,6 +29,20 @@ printed_push before [] line = append-nil (printed_by before line) ∙ ap (λ b. 
 printed_push before (first ∷ lines) line =
     ap (λ text. printed_by before first ++ text) (printed_push (before ++ first ∷ []) lines line ∙ ap (λ b. printed (before ++ first ∷ []) lines ++ printed_by b line) (append_assoc before (first ∷ []) lines))
     ∙ sym (append_assoc (printed_by before first) (printed (before ++ first ∷ []) lines) (printed_by (before ++ first ∷ lines) line))
+
+printed_append : (before xs ys : List Line) → printed before (xs ++ ys) ≡ printed before xs ++ printed (before ++ xs) ys
+printed_append before [] ys = ap (λ b. printed b ys) (sym (append-nil before))
+printed_append before (x ∷ xs) ys =
+    ap (λ text. printed_by before x ++ text) (printed_append (before ++ x ∷ []) xs ys ∙ ap (λ b. printed (before ++ x ∷ []) xs ++ printed b ys) (append_assoc before (x ∷ []) xs))
+    ∙ sym (append_assoc (printed_by before x) (printed (before ++ x ∷ []) xs) (printed (before ++ x ∷ xs) ys))
+
+-- what the first lines print is the first part of what all print
+pub part_printed : (lines : List Line) (at : ℕ) (old now : Option (List ℕ)) → Appends old now (output_of (take at lines)) → AppendsPart old now (output_of lines)
+part_printed lines at old now h = (length (output_of (take at lines)), subst (Appends old now) (sym is) h)
+  where
+    is : take (length (output_of (take at lines))) (output_of lines) ≡ output_of (take at lines)
+    is = ap (take (length (output_of (take at lines)))) (ap output_of (sym (take-append-drop at lines)) ∙ printed_append [] (take at lines) (drop at lines))
+        ∙ take-append_seam (output_of (take at lines)) (printed (take at lines) (drop at lines))
 
 run_push : (start end next : Content) (made : List Call) (call : Call) → IsServedRun start made end → Steps end call.0.op Served call.1 next → IsServedRun start (made ++ call ∷ []) next
 run_push start end next [] call run step = (next, subst (λ c. Steps c call.0.op Served call.1 next) run step, refl)

@@ -3,8 +3,10 @@ use Rattle.std.specs.Prelude.{◌≤◌, ◌<◌, ℕ, List, length}
 use Rattle.std.specs.declared.option.Option.{Option}
 use Rattle.std.specs.Io.KnownBytes.{Consumes, IsAtEnd}
 use Rattle.outside.specs.Faults.{Rose}
+use Rattle.lua_lexer.specs.declared.limit.TheConstants.{LONGEST}
 
--- An answer that tells of a fault comes exactly where the count rose. Where the count stands at its end, nothing is said.
+-- An answer that tells of a fault comes exactly where the count rose. Where the count stands at its
+-- end, nothing is said.
 pub record TellsFaults (before now : ℕ) (told : Type 0) : Type 0 where
   pub later : before ≤ now
   pub only : told → Rose before now
@@ -15,7 +17,13 @@ pub record Gave (old new : Option (List ℕ)) (script : List ℕ) : Type 0 where
   pub consumed : Consumes old new script
   pub ended : IsAtEnd new
 
+-- the input gave this script, which has at most as many bytes as a script may have, and was read to
+-- its end
+pub record GaveScript (old new : Option (List ℕ)) (script : List ℕ) : Type 0 where
+  pub gave : Gave old new script
+  pub short : length script ≤ LONGEST
+
 -- the input gave more than a script may have
 pub record GaveTooMuch (old new : Option (List ℕ)) (read : List ℕ) : Type 0 where
   pub consumed : Consumes old new read
-  pub long : 1048576 < length read
+  pub long : LONGEST < length read

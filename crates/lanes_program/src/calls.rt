@@ -14,11 +14,13 @@ use std::alloc::Global;
 /// A call on a linda, with what was replied to it.
 pub type Call = (BankCall, LindaReply);
 
-/// Makes the call of a line on the script's linda, which is number 0 of its bank. The only refusal is want of memory.
+/// Makes the call of a line on the script's linda, which is number 0 of its bank. The only refusal
+/// is want of memory.
 pub fn make_call(alloc: Global, linda: &mut Linda, line: &Line) -> Result<Call, Memory>
     requires { fits (content linda.old) (op_of line.now) ≡ true }
     ensures call { IfOk result (λ call. call.0 ≡ record { linda = 0; op = op_of line.now }) }
-    ensures step { IfOk result (λ call. Steps (content linda.old) (op_of line.now) Served call.1 (content linda.new)) }
+    ensures step { IfOk result (λ call. Steps (content linda.old) (op_of line.now) Served call.1
+        (content linda.new)) }
 {
     let op = op_of(alloc, line)?;
     let room = linda.reserve(alloc, &op)?;
@@ -40,7 +42,8 @@ fn op_of(alloc: Global, line: &Line) -> Result<LindaOp, Memory>
     }
 }
 
-/// The line that is printed for a reply: the key, a tab and the value where one was got, and nothing for another reply.
+/// The line that is printed for a reply: the key, a tab and the value where one was got, and
+/// nothing for another reply.
 pub fn reply_text(alloc: Global, reply: &LindaReply) -> Result<Vec<u8>, Memory>
     ensures { IfOk result (λ text. text.items ≡ reply_text reply.now) }
 {

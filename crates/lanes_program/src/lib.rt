@@ -7,8 +7,6 @@ mod lines;
 mod reading;
 mod refusal;
 mod run;
-#[cfg(test)]
-mod tests;
 mod words;
 mod writing;
 

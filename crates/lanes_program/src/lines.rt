@@ -2,10 +2,11 @@
 ghost use Rattle.std.specs.Prelude.{◌≡◌, [], true, Ok, Err, IfOk};
 ghost use Rattle.linda_core.specs.Holding.{content};
 ghost use Rattle.linda_core.specs.SequentialLinda.{fits};
-ghost use Rattle.first_form.specs.Outcome.{IsBalanced};
+ghost use Rattle.first_form.specs.Outcome.{IsBalanced, output_of};
 ghost use Rattle.lanes_program.specs.Reading.{TellsFaults};
 ghost use Rattle.lanes_program.specs.Lines.{op_of};
 ghost use Rattle.lanes_program.specs.Running.{RanAll, RanLine, RanPart};
+ghost use Rattle.lanes_program.specs.Writing.{AppendsPart};
 ghost use Rattle.lanes_program.specs.declared.lines.LineStop.TheVariants.{Memory as OutOfMemory, WriteFault as Failed};
 
 use crate::calls::{Call, make_call, reply_text};
@@ -39,8 +40,8 @@ impl From<WriteFault> for LineStop {
     }
 }
 
-/// Makes the calls of the lines in order on a new linda, and prints what each receive line got. `calls` gains each call that
-/// was made, up to a print that failed.
+/// Makes the calls of the lines in order on a new linda, and prints what each receive line got.
+/// `calls` gains each call that was made, up to a print that failed.
 pub fn run_lines<O: Sink>(
     alloc: Global,
     lines: &[Line],
@@ -49,9 +50,14 @@ pub fn run_lines<O: Sink>(
 ) -> Result<(), LineStop>
     requires balanced { IsBalanced [] lines.now }
     requires empty { calls.old.items ≡ [] }
-    ensures done { result ≡ Ok tt → RanAll lines.now (O.taken output.old) (O.taken output.new) calls.new.items }
-    ensures part { result ≡ Err LineStop.WriteFault → RanPart lines.now (O.taken output.old) (O.taken output.new) calls.new.items }
-    ensures cause { TellsFaults (O.faults output.old) (O.faults output.new) (result ≡ Err LineStop.WriteFault) }
+    ensures done { result ≡ Ok tt
+        → RanAll lines.now (O.taken output.old) (O.taken output.new) calls.new.items }
+    ensures part { result ≡ Err LineStop.WriteFault
+        → RanPart lines.now (O.taken output.old) (O.taken output.new) calls.new.items }
+    ensures memory { result ≡ Err LineStop.Memory
+        → AppendsPart (O.taken output.old) (O.taken output.new) (output_of lines.now) }
+    ensures cause { TellsFaults (O.faults output.old) (O.faults output.new) (result
+        ≡ Err LineStop.WriteFault) }
 {
     let mut linda = Linda::new(alloc);
     for line in lines {
@@ -69,7 +75,8 @@ fn run_line(
     calls: &mut Vec<Call>,
 ) -> Result<Vec<u8>, Memory>
     requires { fits (content linda.old) (op_of line.now) ≡ true }
-    ensures { IfOk result (λ text. RanLine line.now (content linda.old) (content linda.new) calls.old.items calls.new.items text.items) }
+    ensures { IfOk result (λ text. RanLine line.now (content linda.old) (content linda.new)
+        calls.old.items calls.new.items text.items) }
 {
     let (call, reply) = make_call(alloc, linda, line)?;
     let text = reply_text(alloc, &reply)?;

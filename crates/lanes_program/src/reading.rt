@@ -1,9 +1,9 @@
 //! Reads a script to its end.
 ghost use Rattle.std.specs.Prelude.{◌≡◌, ◌≤◌, ◌<◌, ℕ, List, length, IfOk, IsErrOf, OnErr};
 ghost use Rattle.std.specs.Io.KnownBytes.{Consumes};
-ghost use Rattle.lanes_program.specs.Reading.{Gave, GaveTooMuch, TellsFaults};
+ghost use Rattle.lanes_program.specs.Reading.{GaveScript, GaveTooMuch, TellsFaults};
 
-use first_form::SCRIPT_LIMIT;
+use lua_lexer::LONGEST;
 use outside::{ReadFault, Source};
 use std::alloc::Global;
 
@@ -15,16 +15,18 @@ pub enum ReadEnd {
     Memory,
 }
 
-/// All the bytes that the input has left.
+/// All the bytes that the input has left, where these are a script of lawful length.
 pub fn read_script<I: Source>(alloc: Global, input: &mut I) -> Result<Vec<u8>, ReadEnd>
-    ensures gave { IfOk result (λ script. Gave (I.left input.old) (I.left input.new) script.items) }
-    ensures short { IfOk result (λ script. length script.items ≤ 1048576) }
-    ensures too_long { IsErrOf result ReadEnd.TooLong → (read : List ℕ) × GaveTooMuch (I.left input.old) (I.left input.new) read }
-    ensures cause { TellsFaults (I.faults input.old) (I.faults input.new) (IsErrOf result ReadEnd.Fault) }
+    ensures gave { IfOk result (λ script. GaveScript (I.left input.old) (I.left input.new)
+        script.items) }
+    ensures too_long { IsErrOf result ReadEnd.TooLong
+        → (read : List ℕ) × GaveTooMuch (I.left input.old) (I.left input.new) read }
+    ensures cause { TellsFaults (I.faults input.old) (I.faults input.new)
+        (IsErrOf result ReadEnd.Fault) }
 {
     let mut script = Vec::new(alloc);
     let mut piece = [0u8; 32768];
-    while script.len() <= SCRIPT_LIMIT {
+    while script.len() <= LONGEST {
         match input.read(&mut piece) {
             Ok(0) => return Ok(script),
             Ok(count) => {

@@ -1,7 +1,7 @@
 //! Why a script is refused, and the line that says so.
 ghost use Rattle.std.specs.Prelude.{◌≡◌, ◌++◌, codes, IfOk, OnOk};
 ghost use Rattle.std.specs.Fmt.{decimal};
-ghost use Rattle.lanes_program.specs.Refusals.{fault_text, fault_line, parse_line, parse_text, refusal_line, refusal_text, scope_line, scope_text, script_name, unexpected_text};
+ghost use Rattle.lanes_program.specs.Refusals.{refusal_line, refusal_text, script_name};
 
 use lanes_arena::{Bytes, Memory};
 use lua_lexer::LexFault;
@@ -24,7 +24,8 @@ pub enum Refusal {
     NotBuilt,
 }
 
-/// The line on the errors that says why the script which a word names is refused. The only refusal is want of memory.
+/// The line on the errors that says why the script which a word names is refused. The only refusal
+/// is want of memory.
 pub fn refusal_line(alloc: Global, refusal: &Refusal, word: &str) -> Result<Vec<u8>, Memory>
     ensures { IfOk result (λ line. line.items ≡ refusal_line (script_name word.now) refusal.now) }
 {
@@ -42,13 +43,14 @@ fn push_reason(alloc: Global, line: &mut Vec<u8>, refusal: &Refusal) -> Result<(
         Refusal::TooLong => line.extend_from_slice(b": script too long"),
         Refusal::Lexical(fault) => push_fault(alloc, line, *fault),
         Refusal::Grammatical(fault, token) => push_parse_fault(alloc, line, *fault, token),
-        Refusal::Scoped(fault) => push_scope_fault(alloc, line, *fault),
+        Refusal::Scoped(fault) => push_scope_fault(alloc, line, fault),
         Refusal::NotBuilt => line.extend_from_slice(b": not built yet"),
     }
 }
 
 fn push_line_number(alloc: Global, line: &mut Vec<u8>, number: u32) -> Result<(), Memory>
-    ensures { OnOk result (line.new.items ≡ line.old.items ++ (codes ":" ++ (decimal number ++ codes ": "))) }
+    ensures { OnOk result (line.new.items
+        ≡ line.old.items ++ (codes ":" ++ (decimal number ++ codes ": "))) }
 {
     let digits = number.to_string(alloc)?;
     line.extend_from_slice(b":")?;
@@ -57,10 +59,11 @@ fn push_line_number(alloc: Global, line: &mut Vec<u8>, number: u32) -> Result<()
 }
 
 fn push_fault(alloc: Global, line: &mut Vec<u8>, fault: LexFault) -> Result<(), Memory>
-    ensures { OnOk result (line.new.items ≡ line.old.items ++ refusal_text (Refusal.Lexical fault)) }
+    ensures { OnOk result (line.new.items
+        ≡ line.old.items ++ refusal_text (Refusal.Lexical fault)) }
 {
-    push_line_number(alloc, line, fault_line(fault))?;
-    line.extend_from_slice(fault_text(fault))
+    push_line_number(alloc, line, fault.line())?;
+    line.extend_from_slice(fault.text())
 }
 
 fn push_parse_fault(
@@ -69,118 +72,19 @@ fn push_parse_fault(
     fault: ParseFault,
     token: &Option<Bytes>,
 ) -> Result<(), Memory>
-    ensures { OnOk result (line.new.items ≡ line.old.items ++ refusal_text (Refusal.Grammatical fault token.now)) }
+    ensures { OnOk result (line.new.items
+        ≡ line.old.items ++ refusal_text (Refusal.Grammatical fault token.now)) }
 {
-    push_line_number(alloc, line, parse_line(fault))?;
-    push_parse_text(line, fault, token)
+    push_line_number(alloc, line, fault.line())?;
+    fault.push_text(line, token)
 }
 
-fn push_scope_fault(alloc: Global, line: &mut Vec<u8>, fault: ScopeFault) -> Result<(), Memory>
-    ensures { OnOk result (line.new.items ≡ line.old.items ++ refusal_text (Refusal.Scoped fault)) }
+fn push_scope_fault(alloc: Global, line: &mut Vec<u8>, fault: &ScopeFault) -> Result<(), Memory>
+    ensures { OnOk result (line.new.items
+        ≡ line.old.items ++ refusal_text (Refusal.Scoped fault.now)) }
 {
-    push_line_number(alloc, line, scope_line(fault))?;
-    line.extend_from_slice(scope_text(fault))
-}
-
-fn push_parse_text(
-    line: &mut Vec<u8>,
-    fault: ParseFault,
-    token: &Option<Bytes>,
-) -> Result<(), Memory>
-    ensures { OnOk result (line.new.items ≡ line.old.items ++ parse_text fault token.now) }
-{
-    match fault {
-        ParseFault::Unexpected(_) => push_unexpected(line, token),
-        ParseFault::FloatOperator(_) => line.extend_from_slice(b"float operator"),
-        ParseFault::TooDeep(_) => line.extend_from_slice(b"nesting too deep"),
-        ParseFault::GotoNotHere(_) => line.extend_from_slice(b"goto is not supported"),
-        ParseFault::BadAttribute(_) => line.extend_from_slice(b"unknown attribute"),
-        ParseFault::Memory => line.extend_from_slice(b"not enough memory"),
-    }
-}
-
-fn push_between(line: &mut Vec<u8>, before: &[u8], bytes: &[u8], after: &[u8]) -> Result<(), Memory>
-    ensures { OnOk result (line.new.items ≡ line.old.items ++ (before.now ++ (bytes.now ++ after.now))) }
-{
-    line.extend_from_slice(before)?;
-    line.extend_from_slice(bytes)?;
-    line.extend_from_slice(after)
-}
-
-fn push_unexpected(line: &mut Vec<u8>, token: &Option<Bytes>) -> Result<(), Memory>
-    ensures { OnOk result (line.new.items ≡ line.old.items ++ unexpected_text token.now) }
-{
-    match token {
-        None => line.extend_from_slice(b"unexpected end"),
-        Some(bytes) => push_between(line, b"unexpected '", bytes.as_slice(), b"'"),
-    }
-}
-
-// The line of the script where a fault of its grammar is.
-fn parse_line(fault: ParseFault) -> u32
-    ensures { result ≡ parse_line fault }
-{
-    match fault.place() {
-        Some(place) => place.line,
-        None => 0,
-    }
-}
-
-// The line of the script where a fault is.
-fn fault_line(fault: LexFault) -> u32
-    ensures { result ≡ fault_line fault }
-{
-    match fault {
-        LexFault::BadByte(place)
-        | LexFault::BadNumeral(place)
-        | LexFault::FloatNumeral(place)
-        | LexFault::BadEscape(place)
-        | LexFault::OpenString(place)
-        | LexFault::OpenComment(place) => place.line,
-        LexFault::TooLong | LexFault::Memory => 0,
-    }
-}
-
-fn fault_text(fault: LexFault) -> &'static [u8]
-    ensures { result.now ≡ fault_text fault }
-{
-    match fault {
-        LexFault::BadByte(_) => b"unexpected byte",
-        LexFault::BadNumeral(_) => b"malformed numeral",
-        LexFault::FloatNumeral(_) => b"float numeral",
-        LexFault::BadEscape(_) => b"invalid escape",
-        LexFault::OpenString(_) => b"unfinished string",
-        LexFault::OpenComment(_) => b"unfinished comment",
-        LexFault::TooLong => b"script too long",
-        LexFault::Memory => b"not enough memory",
-    }
-}
-
-// The line of the script where a fault of scope is.
-fn scope_line(fault: ScopeFault) -> u32
-    ensures { result ≡ scope_line fault }
-{
-    match fault {
-        ScopeFault::ConstAssigned(place)
-        | ScopeFault::BreakOutside(place)
-        | ScopeFault::VarargOutside(place)
-        | ScopeFault::TooManyLocals(place)
-        | ScopeFault::EnvName(place) => place.line,
-        ScopeFault::Memory => 0,
-    }
-}
-
-fn scope_text(fault: ScopeFault) -> &'static [u8]
-    ensures { result.now ≡ scope_text fault }
-{
-    match fault {
-        ScopeFault::ConstAssigned(_) => b"assignment to a constant",
-        ScopeFault::BreakOutside(_) => b"break outside a loop",
-        ScopeFault::VarargOutside(_) => b"'...' outside a vararg function",
-        ScopeFault::TooManyLocals(_) => b"too many local variables",
-        ScopeFault::EnvName(_) => b"_ENV is not supported",
-        ScopeFault::Memory => b"not enough memory",
-    }
+    push_line_number(alloc, line, fault.line())?;
+    fault.push_text(line)
 }
 
 /// The name that lines give the script which a word names.

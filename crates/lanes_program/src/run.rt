@@ -1,7 +1,7 @@
 //! Runs a script, and what a run ends with.
 ghost use Rattle.std.specs.Prelude.{◌≡◌, ◌≢◌, ◌≤◌, [], List, length, IfOk, IfErr, OnOk};
 ghost use Rattle.std.specs.Io.KnownBytes.{Keeps};
-ghost use Rattle.lanes_program.specs.Finish.{RunsPart, RunsWhole};
+ghost use Rattle.lanes_program.specs.Finish.{PrintsFirst, RunsPart, RunsWhole, StopsEarly};
 ghost use Rattle.lanes_program.specs.Reading.{TellsFaults};
 ghost use Rattle.lanes_program.specs.Refusals.{IsBound, IsRefused, IsUnparsed, Refuses};
 ghost use Rattle.lua_lexer.specs.Tokens.{Lexes};
@@ -17,7 +17,7 @@ use crate::reading::{ReadEnd, read_script};
 use crate::refusal::Refusal;
 use first_form::{Line, lines_of};
 use lanes_arena::{Bytes, Memory};
-use lua_lexer::{LexFault, TokenList, token_bytes, tokens};
+use lua_lexer::{LONGEST, LexFault, TokenList, token_bytes, tokens};
 use lua_parser::{ParseFault, parse};
 use lua_scope::{ScopeFault, bind};
 use lua_tree::Tree;
@@ -43,11 +43,19 @@ pub fn run_script<I: Source, O: Sink>(
 ) -> End
     requires { calls.old.items ≡ [] }
     ensures read { TellsFaults (I.faults input.old) (I.faults input.new) (result ≡ End.ReadFault) }
-    ensures write { TellsFaults (O.faults output.old) (O.faults output.new) (result ≡ End.WriteFault) }
-    ensures done { result ≡ End.Done → RunsWhole (I.left input.old) (I.left input.new) (O.taken output.old) (O.taken output.new) calls.new.items }
-    ensures part { result ≡ End.WriteFault → RunsPart (I.left input.old) (I.left input.new) (O.taken output.old) (O.taken output.new) calls.new.items }
-    ensures refused { (refusal : Refusal) → result ≡ End.Refused refusal → IsRefused (I.left input.old) (I.left input.new) refusal }
-    ensures kept { (MayChange result → ⊥) → Keeps (O.taken output.old) (O.taken output.new) × (calls.new.items ≡ []) }
+    ensures write { TellsFaults (O.faults output.old) (O.faults output.new) (result
+        ≡ End.WriteFault) }
+    ensures done { result ≡ End.Done → RunsWhole (I.left input.old) (I.left input.new)
+        (O.taken output.old) (O.taken output.new) calls.new.items }
+    ensures part { result ≡ End.WriteFault
+        → RunsPart (I.left input.old) (I.left input.new) (O.taken output.old)
+        (O.taken output.new) calls.new.items }
+    ensures memory { result ≡ End.Memory → StopsEarly (I.left input.old) (I.left input.new)
+        (O.taken output.old) (O.taken output.new) }
+    ensures refused { (refusal : Refusal) → result ≡ End.Refused refusal
+        → IsRefused (I.left input.old) (I.left input.new) refusal }
+    ensures kept { (MayChange result → ⊥)
+        → Keeps (O.taken output.old) (O.taken output.new) × (calls.new.items ≡ []) }
 {
     match read_script(alloc, input) {
         Ok(script) => match Bytes::from_vec(script) {
@@ -62,14 +70,22 @@ pub fn run_script<I: Source, O: Sink>(
 
 // Runs a script of lawful length.
 fn run_text<O: Sink>(alloc: Global, script: &Bytes, output: &mut O, calls: &mut Vec<Call>) -> End
-    requires short { length script.now ≤ 1048576 }
+    requires short { length script.now ≤ LONGEST }
     requires empty { calls.old.items ≡ [] }
-    ensures write { TellsFaults (O.faults output.old) (O.faults output.new) (result ≡ End.WriteFault) }
-    ensures done { result ≡ End.Done → (lines : List Line) × IsFirstForm script.now lines × RanAll lines (O.taken output.old) (O.taken output.new) calls.new.items }
-    ensures part { result ≡ End.WriteFault → (lines : List Line) × IsFirstForm script.now lines × RanPart lines (O.taken output.old) (O.taken output.new) calls.new.items }
-    ensures refused { (refusal : Refusal) → result ≡ End.Refused refusal → Refuses script.now refusal }
+    ensures write { TellsFaults (O.faults output.old) (O.faults output.new) (result
+        ≡ End.WriteFault) }
+    ensures done { result ≡ End.Done → (lines : List Line) × IsFirstForm script.now lines
+        × RanAll lines (O.taken output.old) (O.taken output.new) calls.new.items }
+    ensures part { result ≡ End.WriteFault
+        → (lines : List Line) × IsFirstForm script.now lines
+        × RanPart lines (O.taken output.old) (O.taken output.new) calls.new.items }
+    ensures memory { result ≡ End.Memory
+        → PrintsFirst script.now (O.taken output.old) (O.taken output.new) }
+    ensures refused { (refusal : Refusal) → result ≡ End.Refused refusal
+        → Refuses script.now refusal }
     ensures no_read { result ≢ End.ReadFault }
-    ensures kept { (MayChange result → ⊥) → Keeps (O.taken output.old) (O.taken output.new) × (calls.new.items ≡ []) }
+    ensures kept { (MayChange result → ⊥)
+        → Keeps (O.taken output.old) (O.taken output.new) × (calls.new.items ≡ []) }
 {
     match accepted(alloc, script) {
         Ok(lines) => match run_lines(alloc, &lines, output, calls) {
@@ -83,9 +99,10 @@ fn run_text<O: Sink>(alloc: Global, script: &Bytes, output: &mut O, calls: &mut 
 
 // The lines of a script that runs, or how its run ends at once: refused, or for want of memory.
 fn accepted(alloc: Global, script: &Bytes) -> Result<Vec<Line>, End>
-    requires { length script.now ≤ 1048576 }
+    requires { length script.now ≤ LONGEST }
     ensures lines { IfOk result (λ lines. IsFirstForm script.now lines.items) }
-    ensures refused { (refusal : Refusal) → result ≡ Err (End.Refused refusal) → Refuses script.now refusal }
+    ensures refused { (refusal : Refusal) → result ≡ Err (End.Refused refusal)
+        → Refuses script.now refusal }
     ensures others { IfErr result IsEarlyEnd }
 {
     match lines_of(alloc, script.as_slice()) {
@@ -98,11 +115,13 @@ fn accepted(alloc: Global, script: &Bytes) -> Result<Vec<Line>, End>
     }
 }
 
-// Nothing for a script that has a tree in which no rule of scope is broken, or how the run of another one ends at once.
+// Nothing for a script that has a tree in which no rule of scope is broken, or how the run of
+// another one ends at once.
 fn bound(alloc: Global, script: &Bytes) -> Result<(), End>
-    requires { length script.now ≤ 1048576 }
+    requires { length script.now ≤ LONGEST }
     ensures bound { OnOk result (IsBound script.now) }
-    ensures refused { (refusal : Refusal) → result ≡ Err (End.Refused refusal) → Refuses script.now refusal }
+    ensures refused { (refusal : Refusal) → result ≡ Err (End.Refused refusal)
+        → Refuses script.now refusal }
     ensures others { IfErr result IsEarlyEnd }
 {
     match tokens(alloc, script) {
@@ -116,7 +135,8 @@ fn bound(alloc: Global, script: &Bytes) -> Result<(), End>
 fn bound_tokens(alloc: Global, script: &Bytes, tokens: TokenList) -> Result<(), End>
     requires { Lexes script.now (marks tokens) }
     ensures bound { OnOk result (IsBound script.now) }
-    ensures refused { (refusal : Refusal) → result ≡ Err (End.Refused refusal) → Refuses script.now refusal }
+    ensures refused { (refusal : Refusal) → result ≡ Err (End.Refused refusal)
+        → Refuses script.now refusal }
     ensures others { IfErr result IsEarlyEnd }
 {
     match parse(alloc, tokens) {
@@ -145,7 +165,8 @@ fn first_fault(alloc: Global, tree: &Tree) -> Result<Option<ScopeFault>, Memory>
 // How the run of a script with this fault ends: refused, or for want of memory.
 fn unparsed(alloc: Global, script: &Bytes, fault: ParseFault) -> End
     requires { IsUnparsed script.now fault }
-    ensures refused { (refusal : Refusal) → result ≡ End.Refused refusal → Refuses script.now refusal }
+    ensures refused { (refusal : Refusal) → result ≡ End.Refused refusal
+        → Refuses script.now refusal }
     ensures early { IsEarlyEnd result }
 {
     let Some(place) = fault.place() else {

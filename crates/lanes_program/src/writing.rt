@@ -22,7 +22,8 @@ pub fn write_text<O: Sink>(text: &[u8], output: &mut O) -> Result<(), WriteFault
 
 /// Writes a line on the errors, where a fault ends it and changes nothing else.
 pub fn tell<E: Sink>(line: &[u8], errors: &mut E)
-    ensures { Told (E.faults errors.old) (E.faults errors.new) (E.taken errors.old) (E.taken errors.new) line.now }
+    ensures { Told (E.faults errors.old) (E.faults errors.new)
+        (E.taken errors.old) (E.taken errors.new) line.now }
 {
     let _ = write_text(line, errors);
 }

@@ -14,4 +14,5 @@ pub record Call : Type 0 where
 -- these calls in their order take one content to another
 abbrev pub IsRun : Content → List Call → Content → Type 0
 IsRun before [] after = after ≡ before
-IsRun before (call ∷ calls) after = (next : Content) × Steps before call.op call.ending call.reply next × IsRun next calls after
+IsRun before (call ∷ calls) after =
+    (next : Content) × Steps before call.op call.ending call.reply next × IsRun next calls after

@@ -34,31 +34,37 @@ pub record HasRoomAt (entries : List (Key × Queued)) (place more : ℕ) : Type 
   pub room : length queue.items + more ≤ queue.capacity
 
 -- room for a Send to a known key, and to one that is not known
-pub record AppendsAt (entries : List (Key × Queued)) (key : Key) (values : List Item) (place : ℕ) (copies : List Item) : Type 0 where
+pub record AppendsAt (entries : List (Key × Queued)) (key : Key) (values : List Item) (place : ℕ)
+    (copies : List Item) : Type 0 where
   pub copied : copies ≡ values
   pub found : position (key_eq key) (keys_of entries) ≡ Some place
   pub room : HasRoomAt entries place (length values)
 
-pub record BeginsWith (entries : List (Key × Queued)) (spare : ℕ) (key : Key) (values : List Item) (first : Key) (copies : List Item) : Type 0 where
+pub record BeginsWith (entries : List (Key × Queued)) (spare : ℕ) (key : Key) (values : List Item)
+    (first : Key) (copies : List Item) : Type 0 where
   pub copied : copies ≡ values
   pub named : first ≡ key
   pub unknown : lookup (key_eq key) entries ≡ None
   pub room : 0 < spare
 
 abbrev pub IsPreparedToSend : List (Key × Queued) → ℕ → Key → List Item → Prepared → Type 0
-IsPreparedToSend entries spare key values (Append place copies) = AppendsAt entries key values place copies.items
-IsPreparedToSend entries spare key values (Begin first copies) = BeginsWith entries spare key values first copies.items
+IsPreparedToSend entries spare key values (Append place copies) =
+    AppendsAt entries key values place copies.items
+IsPreparedToSend entries spare key values (Begin first copies) =
+    BeginsWith entries spare key values first copies.items
 IsPreparedToSend entries spare key values _ = ⊥
 
 -- room for a Receive that fits
-pub record TakesAt (entries : List (Key × Queued)) (keys : List Key) (place : ℕ) (key : Key) (reply : List Item) (capacity : ℕ) : Type 0 where
+pub record TakesAt (entries : List (Key × Queued)) (keys : List Key) (place : ℕ) (key : Key)
+    (reply : List Item) (capacity : ℕ) : Type 0 where
   pub first : find (has_value (seen entries)) keys ≡ Some key
   pub found : position (key_eq key) (keys_of entries) ≡ Some place
   pub empty : reply ≡ []
   pub room : 0 < capacity
 
 abbrev pub IsPreparedToReceive : List (Key × Queued) → List Key → Prepared → Type 0
-IsPreparedToReceive entries keys (Take place key reply) = TakesAt entries keys place key reply.items (vec_capacity reply)
+IsPreparedToReceive entries keys (Take place key reply) =
+    TakesAt entries keys place key reply.items (vec_capacity reply)
 IsPreparedToReceive entries keys Nothing = find (has_value (seen entries)) keys ≡ None
 IsPreparedToReceive entries keys _ = ⊥
 

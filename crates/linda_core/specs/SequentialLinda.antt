@@ -1,4 +1,5 @@
--- The sequential linda, after the keyed queues of Lua Lanes: which operations fit, what each replies, and the linda after it.
+-- The sequential linda, after the keyed queues of Lua Lanes: which operations fit, what each
+-- replies, and the linda after it.
 use Rattle.std.specs.Prelude.{◌≡◌, ◌+◌, ℕ, Bool, true, false, ◌&&◌, not, nat_le, nat_lt, if◌then◌else◌, List, [], ◌∷◌, ◌++◌, length, take, drop, map, filter, find, Option, None, Some, is_some}
 use Rattle.std.specs.Option.{unwrap_or}
 use Rattle.std.specs.List.{list_any, filter_map}
@@ -52,7 +53,8 @@ has_value linda key = nat_lt 0 (length (queue_of linda key))
 -- ---- which operations fit
 
 abbrev pub fits : Content → LindaOp → Bool
-fits linda (Send key values) = is_within (held_by linda key).limit (length (queue_of linda key) + length values)
+fits linda (Send key values) =
+    is_within (held_by linda key).limit (length (queue_of linda key) + length values)
 fits linda (Receive keys) = list_any (has_value linda) keys
 fits linda (Batch key min max) = nat_le min (length (queue_of linda key))
 fits linda _ = true
@@ -76,7 +78,8 @@ once [] = []
 once (key ∷ keys) = key ∷ filter (λ other. not (key_eq key other)) (once keys)
 
 abbrev pub count_of : Content → Key → Option (Key × ℕ)
-count_of linda key = if is_some (lookup (key_eq key) linda) then Some (key, length (queue_of linda key)) else None
+count_of linda key =
+    if is_some (lookup (key_eq key) linda) then Some (key, length (queue_of linda key)) else None
 
 -- the known ones among the listed keys, or all where none is listed
 abbrev pub counts_of : Content → List Key → List (Key × ℕ)
@@ -87,7 +90,8 @@ abbrev pub reply_of : Content → LindaOp → LindaReply
 reply_of linda (Send key values) = Sent
 reply_of linda (Receive keys) = got_first linda (find (has_value linda) keys)
 reply_of linda (Batch key min max) = Got key (take max (queue_of linda key))
-reply_of linda (Limit key limit) = Room (has_new_room (held_by linda key).limit limit (length (queue_of linda key)))
+reply_of linda (Limit key limit) =
+    Room (has_new_room (held_by linda key).limit limit (length (queue_of linda key)))
 reply_of linda (Set key values) = Done
 reply_of linda (Get key count) = Values (take count (queue_of linda key))
 reply_of linda (Count keys) = Counts (counts_of linda keys)
@@ -96,7 +100,8 @@ reply_of linda (Count keys) = Counts (counts_of linda keys)
 
 -- the key's queue is this; its limit stays
 abbrev pub with_queue : Content → Key → List Item → Content
-with_queue linda key queue = with_held linda key (record { queue = queue; limit = (held_by linda key).limit })
+with_queue linda key queue =
+    with_held linda key (record { queue = queue; limit = (held_by linda key).limit })
 
 abbrev pub without_first : Content → Option Key → Content
 without_first linda None = linda
@@ -106,7 +111,8 @@ abbrev pub after_call : Content → LindaOp → Content
 after_call linda (Send key values) = with_queue linda key (queue_of linda key ++ values)
 after_call linda (Receive keys) = without_first linda (find (has_value linda) keys)
 after_call linda (Batch key min max) = with_queue linda key (drop max (queue_of linda key))
-after_call linda (Limit key limit) = with_held linda key (record { queue = queue_of linda key; limit = limit })
+after_call linda (Limit key limit) =
+    with_held linda key (record { queue = queue_of linda key; limit = limit })
 after_call linda (Set key values) = with_queue linda key values
 after_call linda (Get key count) = linda
 after_call linda (Count keys) = linda
@@ -117,10 +123,13 @@ abbrev pub gave_up_reply : LindaOp → LindaReply
 gave_up_reply (Send key values) = Full
 gave_up_reply _ = Short
 
--- A served call fits, and takes the linda on. A call that gave up does not fit, and changes nothing. Nor does a withdrawn one.
+-- A served call fits, and takes the linda on. A call that gave up does not fit, and changes
+-- nothing. Nor does a withdrawn one.
 abbrev pub Steps : Content → LindaOp → Ending → LindaReply → Content → Type 0
-Steps linda op Served reply after = (fits linda op ≡ true) × (reply ≡ reply_of linda op) × (after ≡ after_call linda op)
-Steps linda op GaveUp reply after = (fits linda op ≡ false) × (reply ≡ gave_up_reply op) × (after ≡ linda)
+Steps linda op Served reply after =
+    (fits linda op ≡ true) × (reply ≡ reply_of linda op) × (after ≡ after_call linda op)
+Steps linda op GaveUp reply after =
+    (fits linda op ≡ false) × (reply ≡ gave_up_reply op) × (after ≡ linda)
 Steps linda op Called_off reply after = (reply ≡ Withdrawn) × (after ≡ linda)
 
 -- how a call may end, before it does

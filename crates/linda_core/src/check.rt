@@ -19,7 +19,8 @@ pub enum OpFault {
     BadCount,
 }
 
-/// Whether an operation is lawful. Every other call on a linda has the condition that its operation is.
+/// Whether an operation is lawful. Every other call on a linda has the condition that its operation
+/// is.
 pub fn check_op(op: &LindaOp) -> Result<(), OpFault>
     ensures { result ≡ fault_of op.now }
 {

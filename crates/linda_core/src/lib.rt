@@ -10,8 +10,6 @@ mod linda;
 mod queue;
 mod queues;
 mod room;
-#[cfg(test)]
-mod tests;
 
 pub use call::{BankCall, Ending, LindaOp, LindaReply};
 pub use check::{OpFault, check_op};

@@ -52,8 +52,8 @@ impl Linda {
         }
     }
 
-    /// Takes the memory that the operation needs, whatever its ending. Nothing that a linda shows changes. The only refusal
-    /// is want of memory.
+    /// Takes the memory that the operation needs, whatever its ending. Nothing that a linda shows
+    /// changes. The only refusal is want of memory.
     pub fn reserve(&mut self, alloc: Global, op: &LindaOp) -> Result<Room, Memory>
         requires { is_carried_out op.now ≡ true }
         ensures room { IfOk result (IsRoomFor self.new op.now) }

@@ -20,7 +20,11 @@ impl Model for Queue {
 
     ghost Value = { Queued };
 
-    ghost view = { λ queue. record { items = queue.items.items; limit = queue.limit; capacity = deque_capacity queue.items } };
+    ghost view = { λ queue. record {
+      items = queue.items.items;
+      limit = queue.limit;
+      capacity = deque_capacity queue.items;
+    } };
 }
 
 impl Queue {

@@ -15,7 +15,8 @@ use std::collections::VecDeque;
 
 /// Whether so many more values stay within the key's limit.
 pub fn has_room(queues: &IndexMap<Key, Queue>, key: &Key, more: usize) -> bool
-    ensures { result ≡ is_within (held_by (seen queues.now.entries) key.now).limit (length (queue_of (seen queues.now.entries) key.now) + more) }
+    ensures { result ≡ is_within (held_by (seen queues.now.entries) key.now).limit
+        (length (queue_of (seen queues.now.entries) key.now) + more) }
 {
     match queues.get(key) {
         Some(queue) => match queue.limit() {
@@ -38,8 +39,10 @@ pub fn has_at_least(queues: &IndexMap<Key, Queue>, key: &Key, count: u64) -> boo
 
 /// The first listed key that has a value, with its place in the map.
 pub fn first_ready<'k>(queues: &IndexMap<Key, Queue>, listed: &'k [Key]) -> Option<(usize, &'k Key)>
-    ensures key { option_map (λ found. found.1.now) result ≡ find (has_value (seen queues.now.entries)) listed.now }
-    ensures place { IfSome result (λ found. position (key_eq found.1.now) (keys queues.now) ≡ Some found.0) }
+    ensures key { option_map (λ found. found.1.now) result
+        ≡ find (has_value (seen queues.now.entries)) listed.now }
+    ensures place { IfSome result
+        (λ found. position (key_eq found.1.now) (keys queues.now) ≡ Some found.0) }
 {
     for key in listed {
         if let Some((place, _, queue)) = queues.get_full(key) {
@@ -81,7 +84,8 @@ pub fn append_at(queues: &mut IndexMap<Key, Queue>, place: usize, values: VecDeq
 /// Makes a key known, with these values.
 pub fn begin(queues: &mut IndexMap<Key, Queue>, key: Key, values: VecDeque<Item>)
     requires { 0 < spare queues.old }
-    ensures { seen queues.new.entries ≡ insert_entry key_eq (seen queues.old.entries) key (begun values.items) }
+    ensures { seen queues.new.entries ≡ insert_entry key_eq (seen queues.old.entries) key
+        (begun values.items) }
 {
     let _ = queues.insert(key, Queue::of(values));
 }
@@ -89,7 +93,8 @@ pub fn begin(queues: &mut IndexMap<Key, Queue>, key: Key, values: VecDeque<Item>
 /// Takes the first value of the queue at a place.
 pub fn take_at(queues: &mut IndexMap<Key, Queue>, place: usize) -> Item
     requires { HasValueAt queues.old.entries place }
-    ensures first { IfSome (slice_get (values queues.old) place) (λ queue. take 1 queue.items ≡ result ∷ []) }
+    ensures first { IfSome (slice_get (values queues.old) place)
+        (λ queue. take 1 queue.items ≡ result ∷ []) }
     ensures rest { Changes queues.old.entries place shortened queues.new.entries }
 {
     queues.get_index_mut(place).unwrap().take_first()

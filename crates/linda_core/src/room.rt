@@ -62,7 +62,8 @@ pub(crate) fn room_to_send(
     key: &Key,
     values: &[Item],
 ) -> Result<Room, Memory>
-    ensures room { IfOk result (IsRoomToSend queues.new.entries (spare queues.new) key.now values.now) }
+    ensures room { IfOk result
+        (IsRoomToSend queues.new.entries (spare queues.new) key.now values.now) }
     ensures seen { seen queues.new.entries ≡ seen queues.old.entries }
 {
     let copies = VecDeque::from_vec(copy_items(alloc, values)?);

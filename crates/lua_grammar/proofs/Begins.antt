@@ -1,7 +1,7 @@
 -- The first token of what is written doesn't depend on what follows.
 use Rattle.std.proofs.Common.{◌≡◌, refl, List}
 use Rattle.lua_tokens.specs.declared.token.Token.{Token}
-use Rattle.lua_grammar.specs.Written.{Exp, atom, function, variable, group, field, item, call, method, table, unary, binary, Stat, skip, assign, run, leave, nest, loop, repeat, branch, count, each, define, define_local, declare}
+use Rattle.lua_grammar.specs.Written.{Exp, atom, function, variable, group, field, item, call, method, table, unary, binary, Stat, skip, assign, run, leave, jump, label, nest, loop, repeat, branch, count, each, define, define_local, declare}
 use Rattle.lua_grammar.specs.Spelling.{spell, spell_stat, first}
 
 pub exp_first : (e : Exp) (k j : List Token) → first (spell e k) ≡ first (spell e j)
@@ -22,6 +22,8 @@ stat_first (skip p) k j = refl
 stat_first (assign t ts p e es) k j = exp_first t _ _
 stat_first (run e) k j = exp_first e _ _
 stat_first (leave p) k j = refl
+stat_first (jump p n q) k j = refl
+stat_first (label p n q r) k j = refl
 stat_first (nest p ss q) k j = refl
 stat_first (loop p e q ss r) k j = refl
 stat_first (repeat p ss q e) k j = refl

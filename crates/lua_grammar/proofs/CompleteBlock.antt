@@ -10,13 +10,13 @@ use Rattle.lua_tree.specs.declared.stat.Stat as statement
 use Rattle.lua_tree.specs.declared.stat.Stat.TheVariants as st
 use Rattle.lua_grammar.specs.declared.measured.Measured.{Measured}
 use Rattle.lua_grammar.specs.Tokens.{token, sign, word, name}
-use Rattle.lua_grammar.specs.Written.{Bytes, Exp, atom, function, variable, group, field, item, call, method, table, unary, binary, Stats, empty, stat, answer, Stat, skip, assign, run, leave, nest, loop, repeat, branch, count, each, define, define_local, declare}
+use Rattle.lua_grammar.specs.Written.{Bytes, Exp, atom, function, variable, group, field, item, call, method, table, unary, binary, Stats, empty, stat, answer, Stat, skip, assign, run, leave, jump, label, nest, loop, repeat, branch, count, each, define, define_local, declare}
 use Rattle.lua_grammar.specs.Spelling.{spell, spell_colon, spell_attrib, spell_declared, spell_values, spell_names, spell_step, spell_arms, spell_body, spell_exps, spell_semicolon, spell_tail, spell_stats, spell_stat, first}
 use Rattle.lua_grammar.specs.Formed.{level, IsPrefix, IsVariable, IsCall, Formed, FormedStats, FormedStat, stat_ends_in_prefix}
 use Rattle.lua_grammar.specs.Erasure.{expr_of, exps_of, stats_of, stat_of}
-use Rattle.lua_grammar.specs.Input.{Outcome, and_then, on, pure, Turn, again, done}
+use Rattle.lua_grammar.specs.Input.{Outcome, and_then, on, pure, Turn, again, done, expect}
 use Rattle.lua_grammar.specs.Expressions.{measured, nothing, with_one, name_leaf, Parts, from_level, operand, rest_of}
-use Rattle.lua_grammar.specs.Statements.{after_do, after_while, after_repeat, after_if, after_for, after_local, after_function, after_return, finished, stat_turn, more_stats, block, flat_parts, deeper_parts, levels, parts}
+use Rattle.lua_grammar.specs.Statements.{after_do, after_while, after_repeat, after_if, after_for, after_local, after_function, after_goto, after_colons, after_return, finished, stat_turn, more_stats, block, flat_parts, deeper_parts, levels, parts}
 use Rattle.lua_grammar.proofs.Heights.{height, stats_height, stat_height, exps_height}
 use Rattle.lua_grammar.proofs.DepthLaws.{height_pos, body_pos}
 use Rattle.lua_grammar.proofs.Loops.{many_done, many_again}
@@ -47,6 +47,14 @@ module _ (P Q R : Parts) (h : Around P Q R) where
     break_turn : stat_turn P Q R found (word w.Break p ∷ k) ≡ Ok (again (with_one found (measured (st.Break p) 0)), k)
     unfolding on
     break_turn = refl
+
+    goto_turn : (n : Bytes) (q : Place) → stat_turn P Q R found (word w.Goto p ∷ name n q ∷ k) ≡ Ok (again (with_one found (measured (st.Goto n q) 0)), k)
+    unfolding on after_goto
+    goto_turn n q = refl
+
+    label_turn : (n : Bytes) (q r : Place) → stat_turn P Q R found (sign s.ColonColon p ∷ name n q ∷ sign s.ColonColon r ∷ k) ≡ Ok (again (with_one found (measured (st.Label n q) 0)), k)
+    unfolding on expect after_colons
+    label_turn n q r = refl
 
     do_turn : 1 ≤ P.depth → stat_turn P Q R found (word w.Do p ∷ k) ≡ added found (after_do P Q R k)
     unfolding on added
@@ -131,6 +139,8 @@ module _ (P Q R : Parts) (h : Around P Q R) where
   stat_read found (run e) k f d n =
       begun_read found e _ _ k k (call_prefix e f.1) f.0 (omega (arith, d, call_alone e f.1)) (n.parted.no_suffix refl) (run_read P Q R h e k f.1)
   stat_read found (leave p) k f d n = break_turn found p k
+  stat_read found (jump p m q) k f d n = goto_turn found p k m q
+  stat_read found (label p m q r) k f d n = label_turn found p k m q r
   stat_read found (nest p ss q) k f d n =
       do_turn found p (spell_stats ss (word w.End q ∷ k)) (omega (arith, d)) ∙ one_added found _ _ _ _ (do_read P Q R h ss q k f d)
   stat_read found (loop p e q ss r) k f d n =

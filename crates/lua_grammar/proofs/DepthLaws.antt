@@ -14,7 +14,7 @@ use Rattle.lua_tokens.specs.declared.place.Place.{Place}
 use Rattle.lua_grammar.specs.Tokens.{Op, or, and, plain}
 use Rattle.lua_grammar.specs.Erasure.{node, block_of, body_of, branch_of, text_node, name_node, index_node, op_kind, atom_kind, target_of, self_of, params_of, params_dots, names_of, is_const, declared_of, args_place, expr_of, args_of, exps_of, tail_of, fields_of, field_of, function_of, stats_of, stat_of, arms_of, else_of, step_of, values_of, tree_of}
 use Rattle.lua_grammar.specs.Depth.{greatest, depth_of, kind_depth, field_depth, stat_depth, expr_depth as expr_layer, pair_depth, block_depth, body_depth, branch_depth, depth_of_expr, depth_of_stat, depths_of_stats}
-use Rattle.lua_grammar.specs.Written.{Bytes, Atom, nil, yes, no, int, quote, dots, Colon, no_colon, colon, Exp, atom, function, variable, group, field, item, call, method, table, unary, binary, Args, listed, braced, quoted, Exps, none, some, Tail, end_tail, more, Fields, no_fields, last_field, more_fields, Field as written_field, single, titled, keyed, Body as written_body, body, Stats, empty, stat, answer, Stat as written_stat, skip, assign, run, leave, nest, loop, repeat, branch, count, each, define, define_local, declare, Arms, over, otherwise, further, Step, no_step, step, Values, no_values, values}
+use Rattle.lua_grammar.specs.Written.{Bytes, Atom, nil, yes, no, int, quote, dots, Colon, no_colon, colon, Exp, atom, function, variable, group, field, item, call, method, table, unary, binary, Args, listed, braced, quoted, Exps, none, some, Tail, end_tail, more, Fields, no_fields, last_field, more_fields, Field as written_field, single, titled, keyed, Body as written_body, body, Stats, empty, stat, answer, Stat as written_stat, skip, assign, run, leave, jump, label, nest, loop, repeat, branch, count, each, define, define_local, declare, Arms, over, otherwise, further, Step, no_step, step, Values, no_values, values}
 use Rattle.lua_grammar.proofs.Heights.{target_height, height, args_height, exps_height, tail_height, fields_height, field_height, body_height, stats_height, stat_height, arms_height, step_height, values_height}
 
 -- ---- the depth of each form of the tree
@@ -150,6 +150,12 @@ return_deep es = search the_lemmas
 break_deep : (p : Place) → depth_of_stat (st.Break p) ≡ 0
 break_deep p = search the_lemmas
 
+goto_deep : (n : Bytes) (p : Place) → depth_of_stat (st.Goto n p) ≡ 0
+goto_deep n p = search the_lemmas
+
+label_deep : (n : Bytes) (p : Place) → depth_of_stat (st.Label n p) ≡ 0
+label_deep n p = search the_lemmas
+
 -- ---- of what is written
 
 appended : (xs ys : List Stat) → depths_of_stats (xs ++ ys) ≡ max (depths_of_stats xs) (depths_of_stats ys)
@@ -233,6 +239,8 @@ mutual
   stat_depth_law (assign t ts p e es) = omega (arith, assign_deep (expr_of t ∷ tail_of ts) (expr_of e ∷ tail_of es), expr_depth t, tail_depth_law ts, expr_depth e, tail_depth_law es)
   stat_depth_law (run e) = omega (arith, run_deep (expr_of e), expr_depth e)
   stat_depth_law (leave p) = omega (arith, break_deep p)
+  stat_depth_law (jump p n q) = omega (arith, goto_deep n q)
+  stat_depth_law (label p n q r) = omega (arith, label_deep n q)
   stat_depth_law (nest p ss q) = omega (arith, do_deep (block_of (stats_of ss)), block_depths (stats_of ss), stats_depth_law ss)
   stat_depth_law (loop p e q ss r) = omega (arith, while_deep (expr_of e) (block_of (stats_of ss)), block_depths (stats_of ss), expr_depth e, stats_depth_law ss)
   stat_depth_law (repeat p ss q e) = omega (arith, repeat_deep (block_of (stats_of ss)) (expr_of e), block_depths (stats_of ss), expr_depth e, stats_depth_law ss)

@@ -5,7 +5,7 @@ use Rattle.lua_tokens.specs.declared.token.Lexeme.{Lexeme}
 use Rattle.lua_tokens.specs.declared.token.Lexeme.TheVariants as l
 use Rattle.lua_tokens.specs.declared.sign.Sign.TheVariants as s
 use Rattle.lua_tokens.specs.declared.word.Word.TheVariants as w
-use Rattle.lua_grammar.specs.Written.{Bytes, Exp, atom, function, variable, group, field, item, call, method, table, unary, binary, Stats, empty, stat, answer, Stat, skip, assign, run, leave, nest, loop, repeat, branch, count, each, define, define_local, declare}
+use Rattle.lua_grammar.specs.Written.{Bytes, Exp, atom, function, variable, group, field, item, call, method, table, unary, binary, Stats, empty, stat, answer, Stat, skip, assign, run, leave, jump, label, nest, loop, repeat, branch, count, each, define, define_local, declare}
 use Rattle.lua_grammar.specs.Spelling.{spell, spell_stats, spell_stat, first}
 use Rattle.lua_grammar.specs.Formed.{IsPrefix, IsCall, Formed, FormedStats, FormedStat, stat_ends_in_prefix}
 use Rattle.lua_grammar.specs.Next.{is_sign}
@@ -26,6 +26,8 @@ data Ahead : Type 0 where
   a_name : Bytes → Ahead
   a_paren : Ahead
   a_break : Ahead
+  a_goto : Ahead
+  a_label : Ahead
   a_do : Ahead
   a_while : Ahead
   a_repeat : Ahead
@@ -45,6 +47,8 @@ ahead_lexeme a_semicolon = l.Sign s.Semicolon
 ahead_lexeme (a_name n) = l.Name n
 ahead_lexeme a_paren = l.Sign s.OpenParen
 ahead_lexeme a_break = l.Word w.Break
+ahead_lexeme a_goto = l.Word w.Goto
+ahead_lexeme a_label = l.Sign s.ColonColon
 ahead_lexeme a_do = l.Word w.Do
 ahead_lexeme a_while = l.Word w.While
 ahead_lexeme a_repeat = l.Word w.Repeat
@@ -64,6 +68,8 @@ follows a_semicolon prefix h = record { parted = record { no_suffix = λ _. reco
 follows (a_name n) prefix h = record { parted = record { no_suffix = λ _. record { dot = refl; bracket = refl; colon = refl; paren = refl; brace = refl; text = refl }; no_op = refl }; no_comma = refl; no_equal = refl; no_less = refl }
 follows a_paren prefix h = record { parted = record { no_suffix = λ t. (let f : prefix ≡ false = h refl in cc); no_op = refl }; no_comma = refl; no_equal = refl; no_less = refl }
 follows a_break prefix h = record { parted = record { no_suffix = λ _. record { dot = refl; bracket = refl; colon = refl; paren = refl; brace = refl; text = refl }; no_op = refl }; no_comma = refl; no_equal = refl; no_less = refl }
+follows a_goto prefix h = record { parted = record { no_suffix = λ _. record { dot = refl; bracket = refl; colon = refl; paren = refl; brace = refl; text = refl }; no_op = refl }; no_comma = refl; no_equal = refl; no_less = refl }
+follows a_label prefix h = record { parted = record { no_suffix = λ _. record { dot = refl; bracket = refl; colon = refl; paren = refl; brace = refl; text = refl }; no_op = refl }; no_comma = refl; no_equal = refl; no_less = refl }
 follows a_do prefix h = record { parted = record { no_suffix = λ _. record { dot = refl; bracket = refl; colon = refl; paren = refl; brace = refl; text = refl }; no_op = refl }; no_comma = refl; no_equal = refl; no_less = refl }
 follows a_while prefix h = record { parted = record { no_suffix = λ _. record { dot = refl; bracket = refl; colon = refl; paren = refl; brace = refl; text = refl }; no_op = refl }; no_comma = refl; no_equal = refl; no_less = refl }
 follows a_repeat prefix h = record { parted = record { no_suffix = λ _. record { dot = refl; bracket = refl; colon = refl; paren = refl; brace = refl; text = refl }; no_op = refl }; no_comma = refl; no_equal = refl; no_less = refl }
@@ -124,6 +130,8 @@ stat_ahead (skip p) k f = record { ahead = a_semicolon; is = refl }
 stat_ahead (assign t ts p e es) k f = record { ahead = prefix_ahead t; is = prefix_first t (variable_prefix t f.1) f.0 _ }
 stat_ahead (run e) k f = record { ahead = prefix_ahead e; is = prefix_first e (call_prefix e f.1) f.0 _ }
 stat_ahead (leave p) k f = record { ahead = a_break; is = refl }
+stat_ahead (jump p n q) k f = record { ahead = a_goto; is = refl }
+stat_ahead (label p n q r) k f = record { ahead = a_label; is = refl }
 stat_ahead (nest p ss q) k f = record { ahead = a_do; is = refl }
 stat_ahead (loop p e q ss r) k f = record { ahead = a_while; is = refl }
 stat_ahead (repeat p ss q e) k f = record { ahead = a_repeat; is = refl }

@@ -1,6 +1,6 @@
 -- How deep what is written is nested.
 use Rattle.std.proofs.Common.{ℕ, ◌+◌, max}
-use Rattle.lua_grammar.specs.Written.{Colon, no_colon, colon, Exp, atom, function, variable, group, field, item, call, method, table, unary, binary, Args, listed, braced, quoted, Exps, none, some, Tail, end_tail, more, Fields, no_fields, last_field, more_fields, Field, single, titled, keyed, Body, body, Stats, empty, stat, answer, Stat, skip, assign, run, leave, nest, loop, repeat, branch, count, each, define, define_local, declare, Arms, over, otherwise, further, Step, no_step, step, Values, no_values, values}
+use Rattle.lua_grammar.specs.Written.{Colon, no_colon, colon, Exp, atom, function, variable, group, field, item, call, method, table, unary, binary, Args, listed, braced, quoted, Exps, none, some, Tail, end_tail, more, Fields, no_fields, last_field, more_fields, Field, single, titled, keyed, Body, body, Stats, empty, stat, answer, Stat, skip, assign, run, leave, jump, label, nest, loop, repeat, branch, count, each, define, define_local, declare, Arms, over, otherwise, further, Step, no_step, step, Values, no_values, values}
 
 -- of the target of a `function` statement
 abbrev pub target_height : ℕ → Colon → ℕ
@@ -59,6 +59,8 @@ abbrev mutual
   stat_height (assign t ts p e es) = max (max (height t) (tail_height ts)) (max (height e) (tail_height es))
   stat_height (run e) = height e
   stat_height (leave p) = 0
+  stat_height (jump p n q) = 0
+  stat_height (label p n q r) = 0
   stat_height (nest p ss q) = stats_height ss + 1
   stat_height (loop p e q ss r) = max (height e) (stats_height ss + 1)
   stat_height (repeat p ss q e) = max (stats_height ss + 1) (height e)

@@ -13,7 +13,7 @@ use Rattle.lua_grammar.specs.declared.measured.Ends.TheVariants as ends
 use Rattle.lua_grammar.specs.Written.{Bytes}
 use Rattle.lua_grammar.specs.Input.{pure, again, done}
 use Rattle.lua_grammar.specs.Expressions.{Parts, name_leaf, list, on_call, group, nothing}
-use Rattle.lua_grammar.specs.Statements.{as_variable, as_call, as_group, after_do, after_while, after_repeat, condition, after_else, arm_turn, more_arms, after_if, for_step, for_numbers, name_turn, for_names, for_each, after_for, attrib, declared_turn, more_declared, values, local_names, local_function, after_local, path_turn, path, defined, after_path, after_function, target_turn, needs_variable, target_from, target, targets_turn, assigned, finished, prefix_turn, prefixes, begun, after_open, returned, semicolon, after_return, stat_turn, more_stats, block}
+use Rattle.lua_grammar.specs.Statements.{as_variable, as_call, as_group, after_do, after_while, after_repeat, condition, after_else, arm_turn, more_arms, after_if, for_step, for_numbers, name_turn, for_names, for_each, after_for, attrib, declared_turn, more_declared, values, local_names, local_function, after_local, path_turn, path, defined, after_path, after_function, target_turn, needs_variable, target_from, target, targets_turn, assigned, finished, prefix_turn, prefixes, begun, after_open, after_goto, after_colons, returned, semicolon, after_return, stat_turn, more_stats, block}
 use Rattle.lua_grammar.proofs.Shorter.{arm_shrinks, name_shrinks, declared_shrinks, path_shrinks, target_shrinks, targets_shrinks, prefix_shrinks, stat_shrinks}
 use Rattle.lua_grammar.proofs.LocalStat.{arm_turn_local, name_turn_local, declared_turn_local, path_turn_local, target_turn_local, targets_turn_local, prefix_turn_local, stat_turn_local, from_local, begun_local}
 use Rattle.lua_grammar.proofs.Kept.{Fam, when, pure_f, refuse_f, bind_f, expect_f, attribute_fam, before_fam, on_room, on_true, name_room, name_true, Yields, many_fam, anything, bind_where}
@@ -203,6 +203,16 @@ module _ (d : ℕ) (P Q R : ℕ → Parts) (hp : FamParts d P) (hq : FamParts d 
   open_fam p = bind_where (λ n. group (R n) p) (λ n e. begun (P n) (Q n) (R n) (as_group e)) AtLeastOne (group_deep d R hr d p) (λ e i. begun_fam (as_group e) i)
       (λ n e. begun_local (P n) (Q n) (R n) (hp.shorter n) (hq.shorter n) (hr.shorter n) (hp.local n) (hq.local n) (hr.local n) (as_group e)) (group_fam d R hr p)
 
+  -- ---- jumps
+
+  goto_fam : {C : Type 0} → Fam C d (λ n. after_goto)
+  unfolding after_goto
+  goto_fam = name_true _ _ (λ n p. pure_f _) (refuse_f _)
+
+  label_fam : {C : Type 0} → Fam C d (λ n. after_colons)
+  unfolding after_colons
+  label_fam = name_true _ _ (λ n p. bind_f _ _ (λ _. pure_f _) (expect_f _ (λ _. refl) refl)) (refuse_f _)
+
   -- ---- blocks
 
   return_fam : {C : Type 0} → Fam C d (λ n. after_return (P n) (Q n) (R n))
@@ -218,6 +228,8 @@ module _ (d : ℕ) (P Q R : ℕ → Parts) (hp : FamParts d P) (hq : FamParts d 
       on_true _ _ _ (λ _. refl) refl (λ _ _. pure_f _)
       (on_true _ _ _ (λ _. refl) refl (λ _ _. bind_f _ _ (λ x. pure_f _) return_fam)
       (on_true _ _ _ (λ _. refl) refl (λ _ p. pure_f _)
+      (on_true _ _ _ (λ _. refl) refl (λ _ _. bind_f _ _ (λ x. pure_f _) goto_fam)
+      (on_true _ _ _ (λ _. refl) refl (λ _ _. bind_f _ _ (λ x. pure_f _) label_fam)
       (name_room _ _ _ (room_grows d P hp 1) (λ n p. bind_f _ _ (λ x. pure_f _) (begun_fam (as_variable (name_leaf n p)) (omega arith)))
       (on_room _ _ _ _ (room_grows d P hp 3) (λ _. refl) refl (λ _ p. bind_f _ _ (λ x. pure_f _) (open_fam p))
       (on_true _ _ _ (λ _. refl) refl (λ _ _. bind_f _ _ (λ x. pure_f _) local_fam)
@@ -226,7 +238,7 @@ module _ (d : ℕ) (P Q R : ℕ → Parts) (hp : FamParts d P) (hq : FamParts d 
       (on_room _ _ _ _ (room_grows d P hp 2) (λ _. refl) refl (λ _ p. bind_f _ _ (λ x. pure_f _) (when two (function_fam p)))
       (on_room _ _ _ _ (room_grows d P hp 1) (λ _. refl) refl (λ _ _. bind_f _ _ (λ x. pure_f _) (when one while_fam))
       (on_room _ _ _ _ (room_grows d P hp 1) (λ _. refl) refl (λ _ _. bind_f _ _ (λ x. pure_f _) (when one repeat_fam))
-      (on_room _ _ _ _ (room_grows d P hp 1) (λ _. refl) refl (λ _ _. bind_f _ _ (λ x. pure_f _) (when one do_fam)) (pure_f _))))))))))))
+      (on_room _ _ _ _ (room_grows d P hp 1) (λ _. refl) refl (λ _ _. bind_f _ _ (λ x. pure_f _) (when one do_fam)) (pure_f _))))))))))))))
 
   pub block_fam : {C : Type 0} → Fam C d (λ n. block (P n) (Q n) (R n))
   unfolding block more_stats

@@ -26,6 +26,7 @@ pub mod SoundBody
 pub mod Precedence
 pub mod SoundExpr
 pub mod SoundStat
+pub mod SoundJump
 pub mod SoundIf
 pub mod SoundNames
 pub mod SoundFunction

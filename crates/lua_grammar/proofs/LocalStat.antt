@@ -10,7 +10,7 @@ use Rattle.lua_grammar.specs.declared.measured.Ends.TheVariants as ends
 use Rattle.lua_grammar.specs.Written.{Bytes}
 use Rattle.lua_grammar.specs.Input.{pure, again, done}
 use Rattle.lua_grammar.specs.Expressions.{Parts, on_call}
-use Rattle.lua_grammar.specs.Statements.{as_variable, as_call, after_do, after_while, after_repeat, condition, after_else, more_arms, after_if, for_step, for_numbers, for_names, for_each, after_for, attrib, more_declared, values, local_names, local_function, after_local, path, defined, after_path, after_function, needs_variable, target_from, target, assigned, finished, prefixes, begun, after_open, returned, semicolon, after_return, more_stats, arm_turn, name_turn, declared_turn, path_turn, target_turn, targets_turn, prefix_turn, stat_turn, block, Levels, levels, no_parts, flat_parts, parts}
+use Rattle.lua_grammar.specs.Statements.{as_variable, as_call, after_do, after_while, after_repeat, condition, after_else, more_arms, after_if, for_step, for_numbers, for_names, for_each, after_for, attrib, more_declared, values, local_names, local_function, after_local, path, defined, after_path, after_function, needs_variable, target_from, target, assigned, finished, prefixes, begun, after_open, after_goto, after_colons, returned, semicolon, after_return, more_stats, arm_turn, name_turn, declared_turn, path_turn, target_turn, targets_turn, prefix_turn, stat_turn, block, Levels, levels, no_parts, flat_parts, parts}
 use Rattle.lua_grammar.proofs.Shorter.{ShorterParts, none_shorter, levels_shorter, arm_shrinks, name_shrinks, declared_shrinks, path_shrinks, target_shrinks, targets_shrinks, prefix_shrinks, stat_shrinks}
 use Rattle.lua_grammar.proofs.Properties.{Local}
 use Rattle.lua_grammar.proofs.Local.{pure_local, refuse_local, bind_local, on_local, name_local, expect_local, before_local, attribute_local, many_local}
@@ -140,6 +140,14 @@ module _ (P Q R : Parts) (shp : ShorterParts P) (shq : ShorterParts Q) (shr : Sh
   unfolding after_open
   open_local p = bind_local _ _ (λ e. begun_local _) (group_local R shr hr p)
 
+  goto_local : Local after_goto
+  unfolding after_goto
+  goto_local = name_local _ _ _ (λ n p. pure_local _) (refuse_local _)
+
+  label_local : Local after_colons
+  unfolding after_colons
+  label_local = name_local _ _ _ (λ n p. bind_local _ _ (λ _. pure_local _) (expect_local _ (λ _. refl) refl)) (refuse_local _)
+
   return_local : Local (after_return P Q R)
   unfolding after_return returned semicolon
   return_local = bind_local _ _ (λ es. bind_local _ _ (λ _. (pure_local _)) (on_local _ _ _ _ (λ _. refl) refl (λ _ _. (pure_local _)) (pure_local _))) (before_local _ _ _ (λ n m. refl) (pure_local _) (list_local P shp hp))
@@ -149,6 +157,8 @@ module _ (P Q R : Parts) (shp : ShorterParts P) (shq : ShorterParts Q) (shr : Sh
       on_local _ _ _ _ (λ _. refl) refl (λ _ _. (pure_local _))
       (on_local _ _ _ _ (λ _. refl) refl (λ _ _. bind_local _ _ (λ x. (pure_local _)) return_local)
       (on_local _ _ _ _ (λ _. refl) refl (λ _ p. (pure_local _))
+      (on_local _ _ _ _ (λ _. refl) refl (λ _ _. bind_local _ _ (λ x. (pure_local _)) goto_local)
+      (on_local _ _ _ _ (λ _. refl) refl (λ _ _. bind_local _ _ (λ x. (pure_local _)) label_local)
       (name_local _ _ _ (λ n p. bind_local _ _ (λ x. (pure_local _)) (begun_local _))
       (on_local _ _ _ _ (λ _. refl) refl (λ _ p. bind_local _ _ (λ x. (pure_local _)) (open_local p))
       (on_local _ _ _ _ (λ _. refl) refl (λ _ _. bind_local _ _ (λ x. (pure_local _)) local_local)
@@ -157,7 +167,7 @@ module _ (P Q R : Parts) (shp : ShorterParts P) (shq : ShorterParts Q) (shr : Sh
       (on_local _ _ _ _ (λ _. refl) refl (λ _ p. bind_local _ _ (λ x. (pure_local _)) (function_local p))
       (on_local _ _ _ _ (λ _. refl) refl (λ _ _. bind_local _ _ (λ x. (pure_local _)) while_local)
       (on_local _ _ _ _ (λ _. refl) refl (λ _ _. bind_local _ _ (λ x. (pure_local _)) repeat_local)
-      (on_local _ _ _ _ (λ _. refl) refl (λ _ _. bind_local _ _ (λ x. (pure_local _)) do_local) (pure_local _))))))))))))
+      (on_local _ _ _ _ (λ _. refl) refl (λ _ _. bind_local _ _ (λ x. (pure_local _)) do_local) (pure_local _))))))))))))))
 
   pub block_local : Local (block P Q R)
   unfolding block more_stats

@@ -12,7 +12,7 @@ use Rattle.lua_grammar.specs.declared.measured.Ends.TheVariants as ends
 use Rattle.lua_grammar.specs.Written.{Bytes}
 use Rattle.lua_grammar.specs.Input.{Parser, pure, Turn, again, done}
 use Rattle.lua_grammar.specs.Expressions.{Parts, named_field, keyed_field, last_dots, list_turn, more_exprs, list, in_parens, suffix_turn, suffixes, field_turn, table, param_turn, parameters, function_body, group, operand, op_turn, on_args, on_index, on_call, separated, climb, from_level, rest_of}
-use Rattle.lua_grammar.specs.Statements.{as_variable, as_call, after_do, after_while, after_repeat, condition, after_else, more_arms, after_if, for_step, for_numbers, for_names, for_each, after_for, attrib, more_declared, values, local_names, local_function, after_local, path, defined, after_path, after_function, needs_variable, target_from, target, assigned, finished, prefixes, begun, after_open, returned, semicolon, after_return, more_stats, arm_turn, name_turn, declared_turn, path_turn, target_turn, targets_turn, prefix_turn, stat_turn, block, Levels, levels, no_parts, flat_parts, parts}
+use Rattle.lua_grammar.specs.Statements.{as_variable, as_call, after_do, after_while, after_repeat, condition, after_else, more_arms, after_if, for_step, for_numbers, for_names, for_each, after_for, attrib, more_declared, values, local_names, local_function, after_local, path, defined, after_path, after_function, needs_variable, target_from, target, assigned, finished, prefixes, begun, after_open, after_goto, after_colons, returned, semicolon, after_return, more_stats, arm_turn, name_turn, declared_turn, path_turn, target_turn, targets_turn, prefix_turn, stat_turn, block, Levels, levels, no_parts, flat_parts, parts}
 use Rattle.lua_grammar.proofs.Loops.{Shorter, Takes, Shrinks, stays, gives_up, bind_shorter, on_shorter, expect_shorter, before_shorter, attribute_shorter, on_takes, bind_takes, many_shorter}
 
 pub record ShorterParts (P : Parts) : Type 0 where
@@ -256,6 +256,14 @@ module _ (P Q R : Parts) (hp : ShorterParts P) (hq : ShorterParts Q) (hr : Short
   unfolding after_open
   open_shorter p = bind_shorter _ _ (λ e. begun_shorter _) (group_shorter R hr p)
 
+  goto_shorter : Shorter after_goto
+  unfolding after_goto
+  goto_shorter = on_shorter _ _ _ _ (λ n p. stays) gives_up
+
+  label_shorter : Shorter after_colons
+  unfolding after_colons
+  label_shorter = on_shorter _ _ _ _ (λ n p. bind_shorter _ _ (λ _. stays) (expect_shorter _)) gives_up
+
   return_shorter : Shorter (after_return P Q R)
   unfolding after_return returned semicolon
   return_shorter = bind_shorter _ _ (λ es. bind_shorter _ _ (λ _. stays) (on_shorter _ _ _ _ (λ _ _. stays) stays)) (before_shorter _ _ _ stays (list_shorter P hp))
@@ -265,6 +273,8 @@ module _ (P Q R : Parts) (hp : ShorterParts P) (hq : ShorterParts Q) (hr : Short
       on_takes _ _ _ _ (λ _ _. stays)
       (on_takes _ _ _ _ (λ _ _. bind_shorter _ _ (λ x. stays) return_shorter)
       (on_takes _ _ _ _ (λ _ p. stays)
+      (on_takes _ _ _ _ (λ _ _. bind_shorter _ _ (λ x. stays) goto_shorter)
+      (on_takes _ _ _ _ (λ _ _. bind_shorter _ _ (λ x. stays) label_shorter)
       (on_takes _ _ _ _ (λ n p. bind_shorter _ _ (λ x. stays) (begun_shorter _))
       (on_takes _ _ _ _ (λ _ p. bind_shorter _ _ (λ x. stays) (open_shorter p))
       (on_takes _ _ _ _ (λ _ _. bind_shorter _ _ (λ x. stays) local_shorter)
@@ -273,7 +283,7 @@ module _ (P Q R : Parts) (hp : ShorterParts P) (hq : ShorterParts Q) (hr : Short
       (on_takes _ _ _ _ (λ _ p. bind_shorter _ _ (λ x. stays) (function_shorter p))
       (on_takes _ _ _ _ (λ _ _. bind_shorter _ _ (λ x. stays) while_shorter)
       (on_takes _ _ _ _ (λ _ _. bind_shorter _ _ (λ x. stays) repeat_shorter)
-      (on_takes _ _ _ _ (λ _ _. bind_shorter _ _ (λ x. stays) do_shorter) stays)))))))))))
+      (on_takes _ _ _ _ (λ _ _. bind_shorter _ _ (λ x. stays) do_shorter) stays)))))))))))))
 
   pub block_shorter : Shorter (block P Q R)
   unfolding block more_stats

@@ -19,7 +19,7 @@ use Rattle.lua_grammar.specs.Erasure.{exps_of, stats_of, stat_of}
 use Rattle.lua_grammar.specs.Next.{a_name, ends_return}
 use Rattle.lua_grammar.specs.Input.{Parser, pure, refuse, ◌>>=◌, before, Turn, done, many}
 use Rattle.lua_grammar.specs.Expressions.{Parts, measured, name_leaf, nothing, with_one, list}
-use Rattle.lua_grammar.specs.Statements.{after_for, for_numbers, for_each, begun, as_variable, after_open, after_local, after_if, after_function, after_while, after_repeat, after_do, returned, semicolon, after_return, add, stat_turn, more_stats, block}
+use Rattle.lua_grammar.specs.Statements.{after_for, for_numbers, for_each, begun, as_variable, after_open, after_goto, after_colons, after_local, after_if, after_function, after_while, after_repeat, after_do, returned, semicolon, after_return, add, stat_turn, more_stats, block}
 use Rattle.lua_grammar.proofs.Heights.{exps_height, stats_height, stat_height}
 use Rattle.lua_grammar.proofs.Shorter.{ShorterParts, stat_shrinks}
 use Rattle.lua_grammar.proofs.Begins.{stat_first}
@@ -29,6 +29,7 @@ use Rattle.lua_grammar.proofs.Fronts.{Meets, weaken, then_meets, on_meets, is_me
 use Rattle.lua_grammar.proofs.Answered.{here, NoCall, GoodList, ReadsList, FailsList, spell_list, GoodStats, GoodBlock, ReadsStats, SoundParts}
 use Rattle.lua_grammar.proofs.SoundArgs.{list_app, list_meets}
 use Rattle.lua_grammar.proofs.SoundStat.{nil_exp, GoodStat, ReadsStat, FailsStat, do_meets, while_meets, repeat_meets, numbers_meet}
+use Rattle.lua_grammar.proofs.SoundJump.{goto_meets, label_meets}
 use Rattle.lua_grammar.proofs.SoundIf.{if_meets}
 use Rattle.lua_grammar.proofs.SoundNames.{each_meets, local_meets}
 use Rattle.lua_grammar.proofs.SoundFunction.{function_meets}
@@ -294,6 +295,10 @@ module _ (P Q R : Parts) (hp : ShorterParts P) (hq : ShorterParts Q) (hr : Short
       let j : SoFar found (word w.Break p ∷ vs) = at (word w.Break p ∷ vs) e in
       let g : GoodStats P.depth (and_stats j.written (stat (leave p) empty)) = (in_stats found (word w.Break p ∷ vs) j).good (leave p) (record { formed = tt; low = omega arith; begins = refl }) in
       one_more found (word w.Break p ∷ vs) j (measured (st.Break p) 0) vs (leave p) g.formed (omega arith) refl refl refl (λ _. refl))
+      (λ _. is_meets (l.Word w.Goto) tt true _ _ BlockTurn Z us z
+      (λ p vs c e. add_meets found (word w.Goto p ∷ vs) (at (word w.Goto p ∷ vs) e) (Some (l.Word w.Goto)) refl after_goto vs (goto_meets P Q R p vs))
+      (λ _. is_meets (l.Sign s.ColonColon) tt true _ _ BlockTurn Z us z
+      (λ p vs c e. add_meets found (sign s.ColonColon p ∷ vs) (at (sign s.ColonColon p ∷ vs) e) (Some (l.Sign s.ColonColon)) refl after_colons vs (label_meets P Q R p vs))
       (λ _. on_meets a_name (λ n. l.Name n) name_found (nat_le 1 P.depth) _ _ BlockTurn Z us z
       (λ n p vs c _ e. add_meets found (name n p ∷ vs) (at (name n p ∷ vs) e) (Some (l.Name n)) refl (begun P Q R (as_variable (name_leaf n p))) vs (name_meets P Q R hp hq hr sp sq sr (room1 c) below lower n p vs))
       (λ _. is_meets (l.Sign s.OpenParen) tt (nat_le 3 P.depth) _ _ BlockTurn Z us z
@@ -316,7 +321,7 @@ module _ (P Q R : Parts) (hp : ShorterParts P) (hq : ShorterParts Q) (hr : Short
       (λ p vs c e. add_meets found (word w.Repeat p ∷ vs) (at (word w.Repeat p ∷ vs) e) (Some (l.Word w.Repeat)) refl (after_repeat P Q R) vs (repeat_meets P Q R sp (room1 c) p vs))
       (λ _. is_meets (l.Word w.Do) tt (nat_le 1 P.depth) _ _ BlockTurn Z us z
       (λ p vs c e. add_meets found (word w.Do p ∷ vs) (at (word w.Do p ∷ vs) e) (Some (l.Word w.Do)) refl (after_do P Q R) vs (do_meets P Q R sp (room1 c) p vs))
-      (λ _. record { written = i.written; formed = i.formed; low = i.low; what = i.what; depth = i.depth; spelled = i.spelled }))))))))))))
+      (λ _. record { written = i.written; formed = i.formed; low = i.low; what = i.what; depth = i.depth; spelled = i.spelled }))))))))))))))
 
   pub block_meets : Meets (ReadsStats (P.depth + 1) ts) (Fails (GoodBlock (P.depth + 1)) spell_stats ts) (block P Q R ts)
   unfolding block more_stats

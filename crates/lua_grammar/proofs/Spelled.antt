@@ -5,7 +5,7 @@ use Rattle.lua_tokens.specs.declared.token.Token.{Token}
 use Rattle.lua_tokens.specs.declared.sign.Sign.TheVariants as s
 use Rattle.lua_tokens.specs.declared.word.Word.TheVariants as w
 use Rattle.lua_grammar.specs.Tokens.{token, sign, word, name, op_lexeme, unary_lexeme}
-use Rattle.lua_grammar.specs.Written.{MoreParams, end_params, more_dots, more_param, Params, no_params, only_dots, params, Names, end_names, more_names, Attrib, no_attrib, const, Declared, end_declared, more_declared, Colon, no_colon, colon, Exp, atom, function, variable, group, field, item, call, method, table, unary, binary, Args, listed, braced, quoted, Exps, none, some, Tail, end_tail, more, Fields, no_fields, last_field, more_fields, Field, single, titled, keyed, Body, body, Stats, empty, stat, answer, Stat, skip, assign, run, leave, nest, loop, repeat, branch, count, each, define, define_local, declare, Arms, over, otherwise, further, Step, no_step, step, Values, no_values, values}
+use Rattle.lua_grammar.specs.Written.{MoreParams, end_params, more_dots, more_param, Params, no_params, only_dots, params, Names, end_names, more_names, Attrib, no_attrib, const, Declared, end_declared, more_declared, Colon, no_colon, colon, Exp, atom, function, variable, group, field, item, call, method, table, unary, binary, Args, listed, braced, quoted, Exps, none, some, Tail, end_tail, more, Fields, no_fields, last_field, more_fields, Field, single, titled, keyed, Body, body, Stats, empty, stat, answer, Stat, skip, assign, run, leave, jump, label, nest, loop, repeat, branch, count, each, define, define_local, declare, Arms, over, otherwise, further, Step, no_step, step, Values, no_values, values}
 use Rattle.lua_grammar.specs.Spelling.{separator_lexeme, spell_more_params, spell_params, spell_names, spell_attrib, spell_declared, spell_colon, spell_semicolon, spell, spell_args, spell_exps, spell_tail, spell_fields, spell_field, spell_body, spell_stats, spell_stat, spell_arms, spell_step, spell_values}
 
 -- what puts tokens before others
@@ -108,6 +108,8 @@ mutual
       ∙ ap (spell t) (tail_app ts (sign s.Equal p ∷ spell e (spell_tail es u)) v) ∙ spell_app t (spell_tail ts (sign s.Equal p ∷ spell e (spell_tail es u))) v
   stat_app (run e) u v = spell_app e u v
   stat_app (leave p) u v = refl
+  stat_app (jump p n q) u v = refl
+  stat_app (label p n q r) u v = refl
   stat_app (nest p ss q) u v = ap (λ z. word w.Do p ∷ z) (stats_app ss (word w.End q ∷ u) v)
   stat_app (loop p e q ss r) u v =
       ap (λ z. word w.While p ∷ z) (ap (λ z. spell e (word w.Do q ∷ z)) (stats_app ss (word w.End r ∷ u) v) ∙ spell_app e (word w.Do q ∷ spell_stats ss (word w.End r ∷ u)) v)

@@ -1,5 +1,5 @@
--- How deep a tree is nested. That of an expression is one more than that of its parts, a function's part being its block, and
--- that of a block one more than the greatest in its statements.
+-- How deep a tree is nested. That of an expression is one more than that of its parts, a function's
+-- part being its block, and that of a block one more than the greatest in its statements.
 use Rattle.std.specs.Prelude.{ℕ, suc, max, List, [], ◌∷◌, Option, Some, None}
 use Rattle.lua_tree.specs.declared.expr.Expr.{Expr, fold-Expr}
 use Rattle.lua_tree.specs.declared.expr.ExprKind.TheOpen.{ExprKind-F, Field-F, Stat-F, Expr-F, Pair-F, Block-F, Body-F, Branch-F}
@@ -47,6 +47,8 @@ stat_depth (Stat-F.ForIn ns es b) = max (greatest es) b
 stat_depth (Stat-F.LocalFunction n p b) = b
 stat_depth (Stat-F.Return es) = greatest es
 stat_depth (Stat-F.Break p) = 0
+stat_depth (Stat-F.Goto n p) = 0
+stat_depth (Stat-F.Label n p) = 0
 
 abbrev pub expr_depth : Expr-F ℕ ℕ ℕ ℕ ℕ ℕ ℕ ℕ → ℕ
 expr_depth e = e.what
@@ -65,11 +67,15 @@ branch_depth b = max b.condition b.block
 
 -- of an expression
 abbrev pub depth_of_expr : Expr → ℕ
-depth_of_expr = fold-Expr ℕ ℕ ℕ ℕ ℕ ℕ ℕ ℕ kind_depth field_depth stat_depth expr_depth pair_depth block_depth body_depth branch_depth
+depth_of_expr =
+    fold-Expr ℕ ℕ ℕ ℕ ℕ ℕ ℕ ℕ kind_depth field_depth stat_depth expr_depth pair_depth block_depth
+    body_depth branch_depth
 
 -- the greatest depth of the expressions, blocks and function bodies in a statement
 abbrev pub depth_of_stat : Stat → ℕ
-depth_of_stat = fold-Stat ℕ ℕ ℕ ℕ ℕ ℕ ℕ ℕ kind_depth field_depth stat_depth expr_depth pair_depth block_depth body_depth branch_depth
+depth_of_stat =
+    fold-Stat ℕ ℕ ℕ ℕ ℕ ℕ ℕ ℕ kind_depth field_depth stat_depth expr_depth pair_depth block_depth
+    body_depth branch_depth
 
 abbrev pub depths_of_stats : List Stat → ℕ
 depths_of_stats [] = 0

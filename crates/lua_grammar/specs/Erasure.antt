@@ -1,4 +1,5 @@
--- The tree of what is written. Separators, semicolons and the kinds of arguments are gone, and lines stand where the rule says.
+-- The tree of what is written. Separators, semicolons and the kinds of arguments are gone, and
+-- lines stand where the rule says.
 use Rattle.std.specs.Prelude.{ℕ, Bool, true, false, List, [], ◌∷◌, ◌++◌, Option, Some, None}
 use Rattle.lua_tokens.specs.declared.place.Place.{Place}
 use Rattle.lua_tree.specs.declared.expr.Expr.{Expr, roll-Expr}
@@ -14,7 +15,7 @@ use Rattle.lua_tree.specs.declared.stat.Body as function_body
 use Rattle.lua_tree.specs.declared.stat.Branch.{Branch}
 use Rattle.lua_tree.specs.declared.stat.Tree.{Tree}
 use Rattle.lua_grammar.specs.Tokens.{Op, or, and, plain, self_name}
-use Rattle.lua_grammar.specs.Written.{Bytes, Atom, nil, yes, no, int, quote, dots, MoreParams, end_params, more_dots, more_param, Params, no_params, only_dots, params, Names, end_names, more_names, Attrib, no_attrib, const, Declared, end_declared, more_declared, Colon, no_colon, colon, Exp, atom, function, variable, group, field, item, call, method, table, unary, binary, Args, listed, braced, quoted, Exps, none, some, Tail, end_tail, more, Fields, no_fields, last_field, more_fields, Field, single, titled, keyed, Body, body, Stats, empty, stat, answer, Stat, skip, assign, run, leave, nest, loop, repeat, branch, count, each, define, define_local, declare, Arms, over, otherwise, further, Step, no_step, step, Values, no_values, values}
+use Rattle.lua_grammar.specs.Written.{Bytes, Atom, nil, yes, no, int, quote, dots, MoreParams, end_params, more_dots, more_param, Params, no_params, only_dots, params, Names, end_names, more_names, Attrib, no_attrib, const, Declared, end_declared, more_declared, Colon, no_colon, colon, Exp, atom, function, variable, group, field, item, call, method, table, unary, binary, Args, listed, braced, quoted, Exps, none, some, Tail, end_tail, more, Fields, no_fields, last_field, more_fields, Field, single, titled, keyed, Body, body, Stats, empty, stat, answer, Stat, skip, assign, run, leave, jump, label, nest, loop, repeat, branch, count, each, define, define_local, declare, Arms, over, otherwise, further, Step, no_step, step, Values, no_values, values}
 
 -- ---- one node
 
@@ -28,7 +29,8 @@ abbrev pub branch_of : Expr → List statement.Stat → Branch
 branch_of e ss = record { condition = e; block = block_of ss }
 
 abbrev pub body_of : List (Bytes × Place) → Bool → List statement.Stat → ℕ → function_body.Body
-body_of ps vararg ss line = record { params = ps; vararg = vararg; block = block_of ss; line = line }
+body_of ps vararg ss line =
+    record { params = ps; vararg = vararg; block = block_of ss; line = line }
 
 abbrev pub text_node : Bytes → Place → Expr
 text_node t p = node (k.Text t) p
@@ -146,7 +148,8 @@ abbrev mutual
 
   -- of a function whose word `function` is here, with these parameters before its own
   pub function_of : Place → List (Bytes × Place) → Body → function_body.Body
-  function_of at first (body p ps q ss r) = body_of (first ++ params_of ps) (params_dots ps) (stats_of ss) at.line
+  function_of at first (body p ps q ss r) =
+      body_of (first ++ params_of ps) (params_dots ps) (stats_of ss) at.line
 
   pub stats_of : Stats → List statement.Stat
   stats_of empty = []
@@ -159,15 +162,23 @@ abbrev mutual
   stat_of (assign t ts p e es) = st.Assign (expr_of t ∷ tail_of ts) (expr_of e ∷ tail_of es) ∷ []
   stat_of (run e) = st.Call (expr_of e) ∷ []
   stat_of (leave p) = st.Break p ∷ []
+  stat_of (jump p n q) = st.Goto n q ∷ []
+  stat_of (label p n q r) = st.Label n q ∷ []
   stat_of (nest p ss q) = st.Do (block_of (stats_of ss)) ∷ []
   stat_of (loop p e q ss r) = st.While (expr_of e) (block_of (stats_of ss)) ∷ []
   stat_of (repeat p ss q e) = st.Repeat (block_of (stats_of ss)) (expr_of e) ∷ []
-  stat_of (branch p e q ss arms) = st.If (branch_of (expr_of e) (stats_of ss) ∷ arms_of arms) (else_of arms) ∷ []
-  stat_of (count p n q r from x to by y ss z) = st.ForNum n q (expr_of from) (expr_of to) (step_of by) (block_of (stats_of ss)) ∷ []
-  stat_of (each p n q ns r e es x ss y) = st.ForIn ((n, q) ∷ names_of ns) (expr_of e ∷ tail_of es) (block_of (stats_of ss)) ∷ []
-  stat_of (define p e c b) = st.Assign (target_of (expr_of e) c ∷ []) (node (k.Function (function_of p (self_of c) b)) p ∷ []) ∷ []
+  stat_of (branch p e q ss arms) =
+      st.If (branch_of (expr_of e) (stats_of ss) ∷ arms_of arms) (else_of arms) ∷ []
+  stat_of (count p n q r from x to by y ss z) =
+      st.ForNum n q (expr_of from) (expr_of to) (step_of by) (block_of (stats_of ss)) ∷ []
+  stat_of (each p n q ns r e es x ss y) =
+      st.ForIn ((n, q) ∷ names_of ns) (expr_of e ∷ tail_of es) (block_of (stats_of ss)) ∷ []
+  stat_of (define p e c b) =
+      st.Assign (target_of (expr_of e) c ∷ [])
+      (node (k.Function (function_of p (self_of c) b)) p ∷ []) ∷ []
   stat_of (define_local p q n r b) = st.LocalFunction n r (function_of q [] b) ∷ []
-  stat_of (declare p n q a ds vs) = st.Local ((n, is_const a, q) ∷ declared_of ds) (values_of vs) ∷ []
+  stat_of (declare p n q a ds vs) =
+      st.Local ((n, is_const a, q) ∷ declared_of ds) (values_of vs) ∷ []
 
   pub arms_of : Arms → List Branch
   arms_of (over p) = []

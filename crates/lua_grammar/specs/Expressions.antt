@@ -43,7 +43,8 @@ abbrev pub called : Measured Expr → Arguments → Measured Expr
 called e a = measured (node (k.Call e.what a.exprs.what) a.place) (max e.depth a.exprs.depth + 1)
 
 abbrev pub method_called : Measured Expr → Bytes → Arguments → Measured Expr
-method_called e n a = measured (node (k.Method e.what n a.exprs.what) a.place) (max e.depth a.exprs.depth + 1)
+method_called e n a =
+    measured (node (k.Method e.what n a.exprs.what) a.place) (max e.depth a.exprs.depth + 1)
 
 abbrev pub unary_node : Unary → Place → Measured Expr → Measured Expr
 unary_node op p e = measured (node (k.Unary op e.what) p) (e.depth + 1)
@@ -88,8 +89,11 @@ pub record Parts : Type 0 where
 module _ (P : Parts) where
   -- ---- lists of expressions
 
-  abbrev pub list_turn : Measured (List Expr) → Parser (Turn (Measured (List Expr)) (Measured (List Expr)))
-  list_turn found = on (is_sign s.Comma) true (λ _ _. P.expr 0 >>= λ e. pure (again (with_one found e))) (pure (done found))
+  abbrev pub list_turn : Measured (List Expr)
+      → Parser (Turn (Measured (List Expr)) (Measured (List Expr)))
+  list_turn found =
+      on (is_sign s.Comma) true (λ _ _. P.expr 0 >>= λ e. pure (again (with_one found e)))
+      (pure (done found))
 
   -- further expressions of a list
   unfoldable pub more_exprs : Measured (List Expr) → Parser (Measured (List Expr))
@@ -102,7 +106,9 @@ module _ (P : Parts) where
 
   -- after the parenthesis
   unfoldable pub in_parens : Place → Parser Arguments
-  in_parens p = on (is_sign s.CloseParen) true (λ _ _. pure (arguments nothing p)) (list >>= λ es. expect (l.Sign s.CloseParen) >>= λ _. pure (arguments es p))
+  in_parens p =
+      on (is_sign s.CloseParen) true (λ _ _. pure (arguments nothing p))
+      (list >>= λ es. expect (l.Sign s.CloseParen) >>= λ _. pure (arguments es p))
 
   -- arguments, and what is to be done with them; else the second reader goes on
   abbrev pub on_args : {A : Type 0} → Bool → (Arguments → Parser A) → Parser A → Parser A
@@ -115,12 +121,17 @@ module _ (P : Parts) where
 
   abbrev pub on_index : {A : Type 0} → Measured Expr → (Measured Expr → A) → Parser A → Parser A
   on_index e g q =
-      on (is_sign s.Dot) (nat_le e.depth P.depth) (λ _ p. on a_name true (λ n r. pure (g (dotted e p n r))) refuse)
-      (on (is_sign s.OpenBracket) (nat_le e.depth P.depth) (λ _ p. P.expr 0 >>= λ x. expect (l.Sign s.CloseBracket) >>= λ _. pure (g (indexed e p x))) q)
+      on (is_sign s.Dot) (nat_le e.depth P.depth)
+      (λ _ p. on a_name true (λ n r. pure (g (dotted e p n r))) refuse)
+      (on (is_sign s.OpenBracket) (nat_le e.depth P.depth)
+      (λ _ p. P.expr 0 >>= λ x. expect (l.Sign s.CloseBracket) >>= λ _.
+      pure (g (indexed e p x))) q)
 
   abbrev pub on_call : {A : Type 0} → Measured Expr → (Measured Expr → A) → Parser A → Parser A
   on_call e g q =
-      on (is_sign s.Colon) (nat_le e.depth P.depth) (λ _ p. on a_name true (λ n r. on_args true (λ a. pure (g (method_called e n a))) refuse) refuse)
+      on (is_sign s.Colon) (nat_le e.depth P.depth)
+      (λ _ p. on a_name true (λ n r. on_args true
+      (λ a. pure (g (method_called e n a))) refuse) refuse)
       (on_args (nat_le e.depth P.depth) (λ a. pure (g (called e a))) q)
 
   abbrev pub suffix_turn : Measured Expr → Parser (Turn (Measured Expr) (Measured Expr))
@@ -132,28 +143,35 @@ module _ (P : Parts) where
   -- ---- table constructors
 
   -- after a field
-  abbrev pub separated : Measured (List Field) → Parser (Turn (Measured (List Field)) (Measured (List Field)))
+  abbrev pub separated : Measured (List Field)
+      → Parser (Turn (Measured (List Field)) (Measured (List Field)))
   separated found =
       on (is_sign s.Comma) true (λ _ _. pure (again found))
       (on (is_sign s.Semicolon) true (λ _ _. pure (again found))
       (on (is_sign s.CloseBrace) true (λ _ _. pure (done found)) refuse))
 
-  abbrev pub single_field : Measured (List Field) → Measured Expr → Parser (Turn (Measured (List Field)) (Measured (List Field)))
+  abbrev pub single_field : Measured (List Field) → Measured Expr
+      → Parser (Turn (Measured (List Field)) (Measured (List Field)))
   single_field found e = separated (with_one found (measured (f.Item e.what) e.depth))
 
   -- after the name that begins a field
-  unfoldable pub named_field : Measured (List Field) → Bytes → Place → Parser (Turn (Measured (List Field)) (Measured (List Field)))
+  unfoldable pub named_field : Measured (List Field) → Bytes → Place
+      → Parser (Turn (Measured (List Field)) (Measured (List Field)))
   named_field found n p =
-      on (is_sign s.Equal) true (λ _ _. P.expr 0 >>= λ e. separated (with_one found (measured (f.Named n e.what) e.depth)))
+      on (is_sign s.Equal) true (λ _ _. P.expr 0 >>= λ e.
+      separated (with_one found (measured (f.Named n e.what) e.depth)))
       (P.rest (name_leaf n p) >>= single_field found)
 
   -- after the bracket that begins a field
-  unfoldable pub keyed_field : Measured (List Field) → Parser (Turn (Measured (List Field)) (Measured (List Field)))
+  unfoldable pub keyed_field : Measured (List Field)
+      → Parser (Turn (Measured (List Field)) (Measured (List Field)))
   keyed_field found =
-      P.expr 0 >>= λ x. expect (l.Sign s.CloseBracket) >>= λ _. expect (l.Sign s.Equal) >>= λ _. P.expr 0 >>= λ e.
+      P.expr 0 >>= λ x. expect (l.Sign s.CloseBracket) >>= λ _. expect (l.Sign s.Equal) >>= λ _.
+      P.expr 0 >>= λ e.
       separated (with_one found (measured (f.Keyed x.what e.what) (max x.depth e.depth)))
 
-  abbrev pub field_turn : Measured (List Field) → Parser (Turn (Measured (List Field)) (Measured (List Field)))
+  abbrev pub field_turn : Measured (List Field)
+      → Parser (Turn (Measured (List Field)) (Measured (List Field)))
   field_turn found =
       on (is_sign s.CloseBrace) true (λ _ _. pure (done found))
       (on a_name (nat_le 1 P.depth) (named_field found)
@@ -169,7 +187,8 @@ module _ (P : Parts) where
   abbrev pub last_dots : List (Bytes × Place) → Parser (List (Bytes × Place) × Bool)
   last_dots found = expect (l.Sign s.CloseParen) >>= λ _. pure (found, true)
 
-  abbrev pub param_turn : List (Bytes × Place) → Parser (Turn (List (Bytes × Place)) (List (Bytes × Place) × Bool))
+  abbrev pub param_turn : List (Bytes × Place)
+      → Parser (Turn (List (Bytes × Place)) (List (Bytes × Place) × Bool))
   param_turn found =
       on (is_sign s.Comma) true (λ _ _.
       on a_name true (λ n p. pure (again (found ++ (n, p) ∷ [])))
@@ -186,7 +205,8 @@ module _ (P : Parts) where
   -- what follows the word `function` at this place, and a name
   unfoldable pub function_body : Place → List (Bytes × Place) → Parser (Measured Body)
   function_body at first =
-      expect (l.Sign s.OpenParen) >>= λ _. parameters first >>= λ ps. P.block >>= λ b. expect (l.Word w.End) >>= λ _.
+      expect (l.Sign s.OpenParen) >>= λ _. parameters first >>= λ ps. P.block >>= λ b.
+      expect (l.Word w.End) >>= λ _.
       pure (measured (body_of ps.0 ps.1 b.what at.line) b.depth)
 
   -- ---- operands and operators
@@ -202,11 +222,16 @@ module _ (P : Parts) where
       (on a_name here (λ n p. suffixes (name_leaf n p))
       (on (is_sign s.OpenParen) (nat_le 1 P.depth) (λ _ p. group p >>= suffixes)
       (on (is_sign s.OpenBrace) here (λ _ p. table p)
-      (on (is_word w.Function) (nat_le 1 P.depth) (λ _ p. function_body p [] >>= λ b. pure (function_node p b))
-      (on a_unary (nat_le 1 P.depth) (λ op p. P.expr 11 >>= λ e. pure (unary_node op p e)) refuse)))))
+      (on (is_word w.Function) (nat_le 1 P.depth)
+      (λ _ p. function_body p [] >>= λ b. pure (function_node p b))
+      (on a_unary (nat_le 1 P.depth) (λ op p. P.expr 11 >>= λ e.
+      pure (unary_node op p e)) refuse)))))
 
   abbrev pub op_turn : ℕ → Measured Expr → Parser (Turn (Measured Expr) (Measured Expr))
-  op_turn m x = on (an_op_from m) (nat_le x.depth P.depth) (λ op p. P.expr (right_level (op_level op)) >>= λ y. pure (again (binary_node op p x y))) (pure (done x))
+  op_turn m x =
+      on (an_op_from m) (nat_le x.depth P.depth)
+      (λ op p. P.expr (right_level (op_level op)) >>= λ y. pure (again (binary_node op p x y)))
+      (pure (done x))
 
   -- operators of this level and above after an expression
   unfoldable pub climb : ℕ → Measured Expr → Parser (Measured Expr)

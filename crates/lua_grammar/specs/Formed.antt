@@ -1,10 +1,11 @@
--- Which of what can be written keeps the rules: precedence, what may be called, indexed, assigned to or a statement, and that
--- an opening parenthesis goes on with an expression before it (manual, sections 3.3.1 and 3.4.8).
+-- Which of what can be written keeps the rules: precedence, what may be called, indexed, assigned
+-- to or a statement, and that an opening parenthesis goes on with an expression before it (manual,
+-- sections 3.3.1 and 3.4.8).
 use Rattle.std.specs.Prelude.{◌≡◌, ℕ, ◌≤◌, Bool, true, false, [], Some}
 use Rattle.lua_tokens.specs.declared.token.Lexeme.TheVariants as l
 use Rattle.lua_tokens.specs.declared.sign.Sign.TheVariants as s
 use Rattle.lua_grammar.specs.Tokens.{op_level, left_level, right_level}
-use Rattle.lua_grammar.specs.Written.{Exp, atom, function, variable, group, field, item, call, method, table, unary, binary, Args, listed, braced, quoted, Exps, none, some, Tail, end_tail, more, Fields, no_fields, last_field, more_fields, Field, single, titled, keyed, Body, body, Stats, empty, stat, answer, Stat, skip, assign, run, leave, nest, loop, repeat, branch, count, each, define, define_local, declare, Arms, over, otherwise, further, Step, no_step, step, Values, no_values, values}
+use Rattle.lua_grammar.specs.Written.{Exp, atom, function, variable, group, field, item, call, method, table, unary, binary, Args, listed, braced, quoted, Exps, none, some, Tail, end_tail, more, Fields, no_fields, last_field, more_fields, Field, single, titled, keyed, Body, body, Stats, empty, stat, answer, Stat, skip, assign, run, leave, jump, label, nest, loop, repeat, branch, count, each, define, define_local, declare, Arms, over, otherwise, further, Step, no_step, step, Values, no_values, values}
 use Rattle.lua_grammar.specs.Spelling.{spell_stats, first}
 
 abbrev pub level : Exp → ℕ
@@ -74,6 +75,8 @@ stat_ends_in_prefix (skip p) = false
 stat_ends_in_prefix (assign t ts p e es) = list_ends_in_prefix e es
 stat_ends_in_prefix (run e) = true
 stat_ends_in_prefix (leave p) = false
+stat_ends_in_prefix (jump p n q) = false
+stat_ends_in_prefix (label p n q r) = false
 stat_ends_in_prefix (nest p ss q) = false
 stat_ends_in_prefix (loop p e q ss r) = false
 stat_ends_in_prefix (repeat p ss q e) = ends_in_prefix e
@@ -96,7 +99,9 @@ abbrev mutual
   Formed (method e p n q a) = Formed e × IsPrefix e × FormedArgs a
   Formed (table p fs q) = FormedFields fs
   Formed (unary op p e) = Formed e × (11 ≤ level e)
-  Formed (binary op p x y) = Formed x × Formed y × (left_level (op_level op) ≤ level x) × (right_level (op_level op) ≤ level y)
+  Formed (binary op p x y) =
+      Formed x × Formed y × (left_level (op_level op) ≤ level x)
+      × (right_level (op_level op) ≤ level y)
 
   pub FormedArgs : Args → Type 0
   FormedArgs (listed p es q) = FormedExps es
@@ -126,19 +131,25 @@ abbrev mutual
 
   pub FormedStats : Stats → Type 0
   FormedStats empty = Unit {0}
-  FormedStats (stat x ss) = FormedStat x × FormedStats ss × (first (spell_stats ss []) ≡ Some (l.Sign s.OpenParen) → stat_ends_in_prefix x ≡ false)
+  FormedStats (stat x ss) =
+      FormedStat x × FormedStats ss × (first (spell_stats ss []) ≡ Some (l.Sign s.OpenParen)
+      → stat_ends_in_prefix x ≡ false)
   FormedStats (answer p es m) = FormedExps es
 
   pub FormedStat : Stat → Type 0
   FormedStat (skip p) = Unit {0}
-  FormedStat (assign t ts p e es) = Formed t × IsVariable t × FormedTail ts × AreVariables ts × Formed e × FormedTail es
+  FormedStat (assign t ts p e es) =
+      Formed t × IsVariable t × FormedTail ts × AreVariables ts × Formed e × FormedTail es
   FormedStat (run e) = Formed e × IsCall e
   FormedStat (leave p) = Unit {0}
+  FormedStat (jump p n q) = Unit {0}
+  FormedStat (label p n q r) = Unit {0}
   FormedStat (nest p ss q) = FormedStats ss
   FormedStat (loop p e q ss r) = Formed e × FormedStats ss
   FormedStat (repeat p ss q e) = FormedStats ss × Formed e
   FormedStat (branch p e q ss arms) = Formed e × FormedStats ss × FormedArms arms
-  FormedStat (count p n q r from x to by y ss z) = Formed from × Formed to × FormedStep by × FormedStats ss
+  FormedStat (count p n q r from x to by y ss z) =
+      Formed from × Formed to × FormedStep by × FormedStats ss
   FormedStat (each p n q ns r e es x ss y) = Formed e × FormedTail es × FormedStats ss
   FormedStat (define p e c b) = IsPath e × FormedBody b
   FormedStat (define_local p q n r b) = FormedBody b

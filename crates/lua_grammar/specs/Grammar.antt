@@ -10,7 +10,8 @@ use Rattle.lua_grammar.specs.Formed.{FormedStats}
 use Rattle.lua_grammar.specs.Erasure.{tree_of}
 use Rattle.lua_grammar.specs.Depth.{depth_of}
 
--- Something well formed is written with these tokens, the end of the script last, and the tree is what it shows.
+-- Something well formed is written with these tokens, the end of the script last, and the tree is
+-- what it shows.
 pub record Spells (tree : Tree) (tokens : List Token) : Type 0 where
   pub written : Stats
   pub last : Place
@@ -26,7 +27,8 @@ pub record Viable (tokens : List Token) (depth : ℕ) : Type 0 where
   pub shallow : depth_of tree ≤ depth
 
 -- The first token with which the tokens so far are no longer viable.
-pub record IsRefused (tokens : List Token) (depth : ℕ) (before : List Token) (refused : Token) (after : List Token) : Type 0 where
+pub record IsRefused (tokens : List Token) (depth : ℕ) (before : List Token) (refused : Token)
+    (after : List Token) : Type 0 where
   pub is : tokens ≡ before ++ refused ∷ after
   pub viable : Viable before depth
   pub not_viable : Viable (before ++ refused ∷ []) depth → ⊥
@@ -35,7 +37,8 @@ pub record IsRefused (tokens : List Token) (depth : ℕ) (before : List Token) (
 abbrev pub IsDeeper : List Token → Token → Type 0
 IsDeeper before refused = (depth : ℕ) × Viable (before ++ refused ∷ []) depth
 
--- The refused token is a name that stands for an attribute: with the name `const` in its place they begin a script.
+-- The refused token is a name that stands for an attribute: with the name `const` in its place they
+-- begin a script.
 pub record IsAttribute (before : List Token) (depth : ℕ) (refused : Token) : Type 0 where
   pub text : Bytes
   pub place : Place

@@ -1,5 +1,5 @@
--- Steps of which readers of tokens are made. A reader answers a value and the tokens after it, or why it refuses and the tokens
--- from the refused one on.
+-- Steps of which readers of tokens are made. A reader answers a value and the tokens after it, or
+-- why it refuses and the tokens from the refused one on.
 use Rattle.std.specs.Prelude.{ℕ, zero, suc, nat_eq, if◌then◌else◌, Bool, true, List, [], ◌∷◌, length, Option, Some, None, Result, Ok, Err}
 use Rattle.std.specs.Cmp.Lexicographic.{pointwise}
 use Rattle.lua_tokens.specs.declared.place.Place.{Place}
@@ -9,8 +9,8 @@ use Rattle.lua_grammar.specs.Tokens.{const_name}
 use Rattle.lua_grammar.specs.Written.{Bytes}
 use Rattle.lua_grammar.specs.Next.{is, a_name}
 
--- Why a token is refused: no script goes on with it, or only scripts that are too deep do, or it is a name where an attribute
--- has to stand.
+-- Why a token is refused: no script goes on with it, or only scripts that are too deep do, or it is
+-- a name where an attribute has to stand.
 pub data Why : Type 0 where
   bad : Why
   deep : Why
@@ -40,12 +40,15 @@ abbrev pub refuse : {A : Type 0} → Parser A
 refuse = λ ts. Err (bad, ts)
 
 -- what to do at a token where something was found, or nothing
-abbrev pub at : {A B : Type 0} → Bool → (B → Place → Parser A) → Parser A → Option B → Token → Parser A
+abbrev pub at : {A B : Type 0} → Bool → (B → Place → Parser A) → Parser A → Option B → Token
+    → Parser A
 at room p q None x ts = q (x ∷ ts)
 at room p q (Some b) x ts = if room then p b x.place ts else Err (deep, x ∷ ts)
 
--- Goes by the next token. What is looked for there is taken, unless there is no room for it; else the second reader goes on.
-unfoldable pub on : {A B : Type 0} → (Lexeme → Option B) → Bool → (B → Place → Parser A) → Parser A → Parser A
+-- Goes by the next token. What is looked for there is taken, unless there is no room for it; else
+-- the second reader goes on.
+unfoldable pub on : {A B : Type 0} → (Lexeme → Option B) → Bool → (B → Place → Parser A) → Parser A
+    → Parser A
 on look room p q [] = q []
 on look room p q (x ∷ ts) = at room p q (look x.what) x ts
 
@@ -61,7 +64,8 @@ before test p q (x ∷ ts) = if test x.what then p (x ∷ ts) else q (x ∷ ts)
 -- the name of an attribute, which is `const`
 abbrev pub by_attribute : Option Bytes → Token → Parser Place
 by_attribute None x ts = Err (bad, x ∷ ts)
-by_attribute (Some n) x ts = if pointwise nat_eq n const_name then Ok (x.place, ts) else Err (attribute, x ∷ ts)
+by_attribute (Some n) x ts =
+    if pointwise nat_eq n const_name then Ok (x.place, ts) else Err (attribute, x ∷ ts)
 
 unfoldable pub attribute_name : Parser Place
 attribute_name [] = Err (bad, [])

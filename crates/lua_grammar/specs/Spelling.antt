@@ -7,7 +7,7 @@ use Rattle.lua_tokens.specs.declared.token.Lexeme.TheVariants as l
 use Rattle.lua_tokens.specs.declared.sign.Sign.TheVariants as s
 use Rattle.lua_tokens.specs.declared.word.Word.TheVariants as w
 use Rattle.lua_grammar.specs.Tokens.{token, sign, word, name, text, op_lexeme, unary_lexeme, const_name}
-use Rattle.lua_grammar.specs.Written.{Atom, nil, yes, no, int, quote, dots, Separator, comma, semicolon, MoreParams, end_params, more_dots, more_param, Params, no_params, only_dots, params, Names, end_names, more_names, Attrib, no_attrib, const, Declared, end_declared, more_declared, Colon, no_colon, colon, Exp, atom, function, variable, group, field, item, call, method, table, unary, binary, Args, listed, braced, quoted, Exps, none, some, Tail, end_tail, more, Fields, no_fields, last_field, more_fields, Field, single, titled, keyed, Body, body, Stats, empty, stat, answer, Stat, skip, assign, run, leave, nest, loop, repeat, branch, count, each, define, define_local, declare, Arms, over, otherwise, further, Step, no_step, step, Values, no_values, values}
+use Rattle.lua_grammar.specs.Written.{Atom, nil, yes, no, int, quote, dots, Separator, comma, semicolon, MoreParams, end_params, more_dots, more_param, Params, no_params, only_dots, params, Names, end_names, more_names, Attrib, no_attrib, const, Declared, end_declared, more_declared, Colon, no_colon, colon, Exp, atom, function, variable, group, field, item, call, method, table, unary, binary, Args, listed, braced, quoted, Exps, none, some, Tail, end_tail, more, Fields, no_fields, last_field, more_fields, Field, single, titled, keyed, Body, body, Stats, empty, stat, answer, Stat, skip, assign, run, leave, jump, label, nest, loop, repeat, branch, count, each, define, define_local, declare, Arms, over, otherwise, further, Step, no_step, step, Values, no_values, values}
 
 abbrev pub atom_lexeme : Atom → Lexeme
 atom_lexeme nil = l.Word w.Nil
@@ -41,7 +41,8 @@ spell_attrib (const p q r) k = sign s.Less p ∷ name const_name q ∷ sign s.Gr
 
 abbrev pub spell_declared : Declared → List Token → List Token
 spell_declared end_declared k = k
-spell_declared (more_declared p n q a ds) k = sign s.Comma p ∷ name n q ∷ spell_attrib a (spell_declared ds k)
+spell_declared (more_declared p n q a ds) k =
+    sign s.Comma p ∷ name n q ∷ spell_attrib a (spell_declared ds k)
 
 abbrev pub spell_colon : Colon → List Token → List Token
 spell_colon no_colon k = k
@@ -81,15 +82,18 @@ abbrev mutual
   pub spell_fields : Fields → List Token → List Token
   spell_fields no_fields k = k
   spell_fields (last_field f) k = spell_field f k
-  spell_fields (more_fields f x p fs) k = spell_field f (token (separator_lexeme x) p ∷ spell_fields fs k)
+  spell_fields (more_fields f x p fs) k =
+      spell_field f (token (separator_lexeme x) p ∷ spell_fields fs k)
 
   pub spell_field : Field → List Token → List Token
   spell_field (single e) k = spell e k
   spell_field (titled n p q e) k = name n p ∷ sign s.Equal q ∷ spell e k
-  spell_field (keyed p x q r e) k = sign s.OpenBracket p ∷ spell x (sign s.CloseBracket q ∷ sign s.Equal r ∷ spell e k)
+  spell_field (keyed p x q r e) k =
+      sign s.OpenBracket p ∷ spell x (sign s.CloseBracket q ∷ sign s.Equal r ∷ spell e k)
 
   pub spell_body : Body → List Token → List Token
-  spell_body (body p ps q ss r) k = sign s.OpenParen p ∷ spell_params ps (sign s.CloseParen q ∷ spell_stats ss (word w.End r ∷ k))
+  spell_body (body p ps q ss r) k =
+      sign s.OpenParen p ∷ spell_params ps (sign s.CloseParen q ∷ spell_stats ss (word w.End r ∷ k))
 
   pub spell_stats : Stats → List Token → List Token
   spell_stats empty k = k
@@ -98,25 +102,36 @@ abbrev mutual
 
   pub spell_stat : Stat → List Token → List Token
   spell_stat (skip p) k = sign s.Semicolon p ∷ k
-  spell_stat (assign t ts p e es) k = spell t (spell_tail ts (sign s.Equal p ∷ spell e (spell_tail es k)))
+  spell_stat (assign t ts p e es) k =
+      spell t (spell_tail ts (sign s.Equal p ∷ spell e (spell_tail es k)))
   spell_stat (run e) k = spell e k
   spell_stat (leave p) k = word w.Break p ∷ k
+  spell_stat (jump p n q) k = word w.Goto p ∷ name n q ∷ k
+  spell_stat (label p n q r) k = sign s.ColonColon p ∷ name n q ∷ sign s.ColonColon r ∷ k
   spell_stat (nest p ss q) k = word w.Do p ∷ spell_stats ss (word w.End q ∷ k)
-  spell_stat (loop p e q ss r) k = word w.While p ∷ spell e (word w.Do q ∷ spell_stats ss (word w.End r ∷ k))
+  spell_stat (loop p e q ss r) k =
+      word w.While p ∷ spell e (word w.Do q ∷ spell_stats ss (word w.End r ∷ k))
   spell_stat (repeat p ss q e) k = word w.Repeat p ∷ spell_stats ss (word w.Until q ∷ spell e k)
-  spell_stat (branch p e q ss arms) k = word w.If p ∷ spell e (word w.Then q ∷ spell_stats ss (spell_arms arms k))
+  spell_stat (branch p e q ss arms) k =
+      word w.If p ∷ spell e (word w.Then q ∷ spell_stats ss (spell_arms arms k))
   spell_stat (count p n q r from x to by y ss z) k =
-      word w.For p ∷ name n q ∷ sign s.Equal r ∷ spell from (sign s.Comma x ∷ spell to (spell_step by (word w.Do y ∷ spell_stats ss (word w.End z ∷ k))))
+      word w.For p ∷ name n q ∷ sign s.Equal r
+      ∷ spell from (sign s.Comma x ∷ spell to
+      (spell_step by (word w.Do y ∷ spell_stats ss (word w.End z ∷ k))))
   spell_stat (each p n q ns r e es x ss y) k =
-      word w.For p ∷ name n q ∷ spell_names ns (word w.In r ∷ spell e (spell_tail es (word w.Do x ∷ spell_stats ss (word w.End y ∷ k))))
+      word w.For p ∷ name n q ∷ spell_names ns
+      (word w.In r ∷ spell e (spell_tail es (word w.Do x ∷ spell_stats ss (word w.End y ∷ k))))
   spell_stat (define p e c b) k = word w.Function p ∷ spell e (spell_colon c (spell_body b k))
-  spell_stat (define_local p q n r b) k = word w.Local p ∷ word w.Function q ∷ name n r ∷ spell_body b k
-  spell_stat (declare p n q a ds vs) k = word w.Local p ∷ name n q ∷ spell_attrib a (spell_declared ds (spell_values vs k))
+  spell_stat (define_local p q n r b) k =
+      word w.Local p ∷ word w.Function q ∷ name n r ∷ spell_body b k
+  spell_stat (declare p n q a ds vs) k =
+      word w.Local p ∷ name n q ∷ spell_attrib a (spell_declared ds (spell_values vs k))
 
   pub spell_arms : Arms → List Token → List Token
   spell_arms (over p) k = word w.End p ∷ k
   spell_arms (otherwise p ss q) k = word w.Else p ∷ spell_stats ss (word w.End q ∷ k)
-  spell_arms (further p e q ss arms) k = word w.Elseif p ∷ spell e (word w.Then q ∷ spell_stats ss (spell_arms arms k))
+  spell_arms (further p e q ss arms) k =
+      word w.Elseif p ∷ spell e (word w.Then q ∷ spell_stats ss (spell_arms arms k))
 
   pub spell_step : Step → List Token → List Token
   spell_step no_step k = k

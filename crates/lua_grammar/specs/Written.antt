@@ -1,5 +1,6 @@
--- What is written in a script: a form for each rule of the grammar (manual, section 9), with the place of each token, also
--- where the tree leaves them out, as a semicolon, or what kind of arguments a call has.
+-- What is written in a script: a form for each rule of the grammar (manual, section 9), with the
+-- place of each token, also where the tree leaves them out, as a semicolon, or what kind of
+-- arguments a call has.
 use Rattle.std.specs.Prelude.{ℕ, ℤ, List, Option}
 use Rattle.lua_tokens.specs.declared.place.Place.{Place}
 use Rattle.lua_tree.specs.declared.operator.Unary.{Unary}
@@ -125,6 +126,10 @@ mutual
     run : Exp → Stat
     -- `break`
     leave : Place → Stat
+    -- `goto name`
+    jump : Place → Bytes → Place → Stat
+    -- `:: name ::`
+    label : Place → Bytes → Place → Place → Stat
     -- `do block end`
     nest : Place → Stats → Place → Stat
     -- `while e do block end`

@@ -1,4 +1,5 @@
-//! The grammar of Lua scripts: which tokens spell a tree, and readers of tokens that a parser follows.
+//! The grammar of Lua scripts: which tokens spell a tree, and readers of tokens that a parser
+//! follows.
 #![tactic(auto)]
 
 mod measured;

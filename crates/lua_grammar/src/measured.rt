@@ -7,10 +7,17 @@ use lua_tokens::Place;
 use lua_tree::Expr;
 
 /// A part of a tree beside its depth. That of a list is the greatest of its parts, or 0.
-#[derive(Debug, Drop)]
 pub struct Measured<T> {
     pub what: T,
     pub depth: usize,
+}
+
+/// One call wherever a part is dropped, whose cases a derived Drop would write out at each such
+/// place.
+impl<T: Drop> Drop for Measured<T> {
+    fn drop(self) {
+        let Measured { what: _, depth: _ } = self;
+    }
 }
 
 impl<T> Measured<T> {
@@ -19,6 +26,22 @@ impl<T> Measured<T> {
         ensures { result ≡ measured what depth }
     {
         Measured { what, depth }
+    }
+
+    /// The part alone.
+    pub fn into_what(self) -> T
+        ensures { result ≡ self.what }
+    {
+        let Measured { what, depth: _ } = self;
+        what
+    }
+
+    /// The part and its depth.
+    pub fn into_parts(self) -> (T, usize)
+        ensures { result ≡ (self.what, self.depth) }
+    {
+        let Measured { what, depth } = self;
+        (what, depth)
     }
 }
 
@@ -34,14 +57,14 @@ pub enum Ends {
 }
 
 /// An expression that a name or a parenthesis begins.
-#[derive(Debug, Drop)]
+#[derive(Drop)]
 pub struct Prefix {
     pub expr: Measured<Expr>,
     pub ends: Ends,
 }
 
 /// The arguments of a call, and where they begin.
-#[derive(Debug, Drop)]
+#[derive(Drop)]
 pub struct Arguments {
     pub exprs: Measured<Row<Expr>>,
     pub place: Place,

@@ -13,7 +13,7 @@ use Rattle.lua_lexer.proofs.Turns.{step_lexes, turn_last, turn_step, turn_stuck}
 
 -- ---- one gap
 
--- what stands behind the one blank or comment that stands here
+-- what stands after the one blank or comment that stands here
 abbrev next : List ℕ → Option (List ℕ)
 next [] = None
 next (b ∷ bs) = if is_blank b then Some bs else comment_here (b ∷ bs)

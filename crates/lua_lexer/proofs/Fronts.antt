@@ -41,7 +41,7 @@ behind_short script bs rest b h e = (behind_first script bs rest b h e).0
 pub behind_end : (script bs rest : List ℕ) (b : ℕ) → EndsWith script bs → bs ≡ b ∷ rest → drop (length script - length rest) script ≡ rest
 behind_end script bs rest b h e = (behind_first script bs rest b h e).1
 
-pub ruleset behind_rules = (behind_short, behind_end)
+pub ruleset rules = (behind_short, behind_end)
 
 -- ---- bytes that are no line ends
 

@@ -5,7 +5,7 @@ use Rattle.lua_lexer.specs.Spellings.{then_open, opening, opens, close_at, split
 use Rattle.lua_lexer.specs.Tokens.{Skips, none, blank, remark, Gap, begins_blank, comment_behind}
 use Rattle.lua_lexer.proofs.Runs.{past_short}
 
--- ---- what stands behind is not longer
+-- ---- what stands after is not longer
 
 abbrev Within : Option (List ℕ) → List ℕ → Type 0
 Within None bs = Unit {0}

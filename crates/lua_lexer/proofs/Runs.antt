@@ -30,7 +30,7 @@ module _ (p : ℕ → Bool) where
   run_past [] = refl
   run_past (b ∷ bs) = whole_by b bs (p b) (run_past bs)
 
--- ---- a run by the length of what stands behind it
+-- ---- a run by the length of what stands after it
 
 length_cut : (a b bs : List ℕ) → a ++ b ≡ bs → length bs - length b ≡ length a
 length_cut a b bs e = omega (arith, length-append {A = ℕ}, ap length e)

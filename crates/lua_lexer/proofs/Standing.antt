@@ -36,7 +36,7 @@ past_over : (p : ℕ → Bool) (front rest : List ℕ) → list_all p front ≡ 
 past_over p [] rest h = refl
 past_over p (b ∷ front) rest h = past_all_by p b front rest (p b) refl (past_over p front rest) h
 
--- a front with as much behind it as another one is that one
+-- a front with as much after it as another one is that one
 front_same : (front other rest more : List ℕ) → front ++ rest ≡ other ++ more → length rest ≡ length more → (front ≡ other) × (rest ≡ more)
 front_same [] [] rest more e h = (refl, e)
 front_same [] (c ∷ other) rest more e h = absurd (omega (arith, h, ap length e, length-append (c ∷ other) more))

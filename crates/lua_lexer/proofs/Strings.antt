@@ -10,7 +10,7 @@ use Rattle.lua_lexer.specs.Reading.{Outcome, Stop, put_front, after_escape, quot
 use Rattle.lua_lexer.proofs.Runs.{past_short, run_begins}
 use Rattle.lua_lexer.proofs.Fronts.{Suffix, suffix_refl, suffix_cons, suffix_trans, suffix_past, suffix_short, past_line_end_suffix, Solid, solid_behind}
 
--- ---- behind an escape stands an end of the bytes
+-- ---- after an escape stands an end of the bytes
 
 abbrev Within : Option (List ℕ × List ℕ) → List ℕ → Type 0
 Within None bs = Unit {0}

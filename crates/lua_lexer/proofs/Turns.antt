@@ -37,7 +37,7 @@ module _ (script : List ℕ) where
 
   -- ---- the turns of the code
 
-  -- tokens of the rest of the script are tokens of the script behind those found, and a fault of the rest is one of the script
+  -- tokens of the rest of the script are tokens of the script after those found, and a fault of the rest is one of the script
   abbrev pub Goes : List Token → List ℕ → Type 0
   Goes found bs = (ms : List Mark) → LexesFrom script bs ms → Lexes script (marks found ++ ms)
 

@@ -35,7 +35,7 @@ abbrev pub run : (ℕ → Bool) → List ℕ → List ℕ
 run p [] = []
 run p (b ∷ bs) = if p b then b ∷ run p bs else []
 
--- what stands behind it
+-- what stands after it
 abbrev pub past : (ℕ → Bool) → List ℕ → List ℕ
 past p [] = []
 past p (b ∷ bs) = if p b then past p bs else b ∷ bs
@@ -48,20 +48,26 @@ is_pair b c = (nat_eq b 10 && nat_eq c 13) || (nat_eq b 13 && nat_eq c 10)
 unfoldable pub line_ends : List ℕ → ℕ
 line_ends [] = 0
 line_ends (b ∷ []) = if is_line_end b then 1 else 0
-line_ends (b ∷ c ∷ bs) = if is_pair b c then suc (line_ends bs) else (if is_line_end b then suc (line_ends (c ∷ bs)) else line_ends (c ∷ bs))
+line_ends (b ∷ c ∷ bs) =
+    if is_pair b c then suc (line_ends bs) else
+    (if is_line_end b then suc (line_ends (c ∷ bs)) else line_ends (c ∷ bs))
 
 -- the bytes with each line end as one LF
 unfoldable pub line_feeds : List ℕ → List ℕ
 line_feeds [] = []
 line_feeds (b ∷ []) = (if is_line_end b then 10 else b) ∷ []
-line_feeds (b ∷ c ∷ bs) = if is_pair b c then 10 ∷ line_feeds bs else (if is_line_end b then 10 else b) ∷ line_feeds (c ∷ bs)
+line_feeds (b ∷ c ∷ bs) =
+    if is_pair b c then 10 ∷ line_feeds bs else (if is_line_end b then 10 else b) ∷ line_feeds
+    (c ∷ bs)
 
 -- without a line end at the front
 abbrev pub past_line_end : List ℕ → List ℕ
 past_line_end [] = []
 past_line_end (b ∷ []) = if is_line_end b then [] else b ∷ []
-past_line_end (b ∷ c ∷ bs) = if is_pair b c then bs else (if is_line_end b then c ∷ bs else b ∷ c ∷ bs)
+past_line_end (b ∷ c ∷ bs) =
+    if is_pair b c then bs else (if is_line_end b then c ∷ bs else b ∷ c ∷ bs)
 
 -- the bytes end with these
 abbrev pub EndsWith : List ℕ → List ℕ → Type 0
-EndsWith script bytes = (length bytes ≤ length script) × (drop (length script - length bytes) script ≡ bytes)
+EndsWith script bytes =
+    (length bytes ≤ length script) × (drop (length script - length bytes) script ≡ bytes)

@@ -3,3 +3,4 @@ pub mod Spellings
 pub mod Tokens
 pub mod Reading
 pub mod View
+pub mod Faults

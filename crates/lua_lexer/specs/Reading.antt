@@ -1,4 +1,5 @@
--- The token that stands at a place, by its first byte: what the code computes, which proofs show to be the spelling.
+-- The token that stands at a place, by its first byte: what the code computes, which proofs show to
+-- be the spelling.
 use Rattle.std.specs.Prelude.{ℕ, ℤ, zero, suc, Bool, true, false, if◌then◌else◌, nat_eq, List, [], ◌∷◌, ◌++◌, length, Option, Some, None, Result, Ok, Err}
 use Rattle.lua_lexer.specs.declared.stop.Why.{Why}
 use Rattle.lua_lexer.specs.declared.stop.Why.TheVariants.{BadByte, BadEscape, OpenString, OpenComment, BadNumeral, FloatNumeral}
@@ -59,7 +60,8 @@ less (b ∷ bs) = if nat_eq b 60 then (s.ShiftLeft, bs) else longer 61 s.LessEqu
 
 abbrev pub greater : List ℕ → Sign × List ℕ
 greater [] = (s.Greater, [])
-greater (b ∷ bs) = if nat_eq b 62 then (s.ShiftRight, bs) else longer 61 s.GreaterEqual s.Greater (b ∷ bs)
+greater (b ∷ bs) =
+    if nat_eq b 62 then (s.ShiftRight, bs) else longer 61 s.GreaterEqual s.Greater (b ∷ bs)
 
 -- the signs of one byte that begin no longer one
 unfoldable pub single : ℕ → Option Sign
@@ -104,18 +106,20 @@ abbrev pub put_front : List ℕ → Outcome (List ℕ) → Outcome (List ℕ)
 put_front front (Ok x) = Ok (front ++ x.0, x.1)
 put_front front (Err stop) = Err stop
 
-abbrev pub after_escape : (List ℕ → Outcome (List ℕ)) → List ℕ → Option (List ℕ × List ℕ) → Outcome (List ℕ)
+abbrev pub after_escape : (List ℕ → Outcome (List ℕ)) → List ℕ → Option (List ℕ × List ℕ)
+    → Outcome (List ℕ)
 after_escape more back None = Err (BadEscape, back)
 after_escape more back (Some x) = put_front x.0 (more x.1)
 
--- a string behind its quote; the number is greater than that of the bytes
+-- a string after its quote; the number is greater than that of the bytes
 unfoldable pub quoted : List ℕ → ℕ → ℕ → List ℕ → Outcome (List ℕ)
 quoted at quote zero bs = Err (OpenString, at)
 quoted at quote (suc n) [] = Err (OpenString, at)
 quoted at quote (suc n) (b ∷ bs) =
     if nat_eq b quote then Ok ([], bs)
     else (if nat_eq b 92 then after_escape (quoted at quote n) (b ∷ bs) (escape bs)
-    else (if is_line_end b then Err (OpenString, at) else put_front (b ∷ []) (quoted at quote n bs)))
+    else (if is_line_end b then Err (OpenString, at) else put_front (b ∷ [])
+    (quoted at quote n bs)))
 
 unfoldable pub string : List ℕ → ℕ → List ℕ → Outcome (List ℕ)
 string at quote bs = quoted at quote (suc (length bs)) bs

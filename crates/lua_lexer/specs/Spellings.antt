@@ -35,7 +35,7 @@ abbrev pub split_close : ℕ → List ℕ → Option ℕ → Option (List ℕ ×
 split_close n bs None = None
 split_close n bs (Some k) = Some (take k bs, drop (n + 2) (drop k bs))
 
--- what stands up to it, and what stands behind it
+-- what stands up to it, and what stands after it
 abbrev pub up_to_close : ℕ → List ℕ → Option (List ℕ × List ℕ)
 up_to_close n bs = split_close n bs (close_at n bs)
 
@@ -43,7 +43,7 @@ abbrev pub then_open : ℕ → List ℕ → Option (ℕ × List ℕ)
 then_open n [] = None
 then_open n (b ∷ bs) = if nat_eq b 91 then Some (n, bs) else None
 
--- behind a `[`: the level and the bytes after the opening bracket, if it is one
+-- after a `[`: the level and the bytes after the opening bracket, if it is one
 abbrev pub opening : List ℕ → Option (ℕ × List ℕ)
 opening bs = then_open (length (run is_equals bs)) (past is_equals bs)
 
@@ -54,7 +54,7 @@ opens (b ∷ bs) = if nat_eq b 91 then opening bs else None
 
 -- ---- comments
 
--- the bytes behind `--`, where it stands here
+-- the bytes after `--`, where it stands here
 abbrev pub dashes : List ℕ → Option (List ℕ)
 dashes [] = None
 dashes (b ∷ []) = None
@@ -68,7 +68,8 @@ abbrev pub long_or_line : List ℕ → Option (ℕ × List ℕ) → Option (List
 long_or_line bs None = Some (past is_inline bs)
 long_or_line bs (Some o) = behind_close (up_to_close o.0 o.1)
 
--- what stands behind the comment of which these bytes stand behind its `--`: a long bracket that isn't closed makes none
+-- what stands after the comment of which these bytes stand after its `--`: a long bracket that
+-- isn't closed makes none
 abbrev pub comment : List ℕ → Option (List ℕ)
 comment bs = long_or_line bs (opens bs)
 
@@ -175,7 +176,7 @@ abbrev pub past_from : Bool → ℕ → List ℕ → List ℕ
 past_from hex before [] = []
 past_from hex before (b ∷ bs) = if in_run hex before b then past_from hex b bs else b ∷ bs
 
--- the run of the numeral that stands here, and what stands behind it
+-- the run of the numeral that stands here, and what stands after it
 abbrev pub numeral_run : List ℕ → List ℕ
 numeral_run bs = run_from (is_hex bs) 0 bs
 
@@ -221,13 +222,16 @@ begins_with p (b ∷ bs) = p b
 abbrev pub is_fraction : Bool → Bool → List ℕ → Bool
 is_fraction hex some [] = some
 is_fraction hex some (b ∷ bs) =
-    if nat_eq b 46 then (some || begins_with (is_digit_of hex) bs) && is_power hex (past (is_digit_of hex) bs) else some && is_power hex (b ∷ bs)
+    if nat_eq b 46 then (some || begins_with (is_digit_of hex) bs) && is_power hex
+    (past (is_digit_of hex) bs) else some && is_power hex (b ∷ bs)
 
 -- digits with a point, an exponent, both or none, and at least one digit before the exponent
 abbrev pub is_digits_form : Bool → List ℕ → Bool
-is_digits_form hex bs = is_fraction hex (begins_with (is_digit_of hex) bs) (past (is_digit_of hex) bs)
+is_digits_form hex bs =
+    is_fraction hex (begins_with (is_digit_of hex) bs) (past (is_digit_of hex) bs)
 
--- the form of a float numeral, to which also belong the digits that are no integer since their value is too great
+-- the form of a float numeral, to which also belong the digits that are no integer since their
+-- value is too great
 abbrev pub is_float : List ℕ → Bool
 is_float text = if is_hex text then is_digits_form true (drop 2 text) else is_digits_form false text
 
@@ -240,12 +244,12 @@ is_plain quote b = not (nat_eq b quote || nat_eq b 92 || is_line_end b)
 abbrev pub hex_value : ℕ → ℕ
 hex_value b = if is_digit b then b - 48 else (if nat_le 97 b then b - 87 else b - 55)
 
--- the number that hexadecimal digits go on to write behind those of n
+-- the number that hexadecimal digits go on to write after those of n
 abbrev pub hex_number : ℕ → List ℕ → ℕ
 hex_number n [] = n
 hex_number n (b ∷ bs) = hex_number (n * 16 + hex_value b) bs
 
--- the byte for which one letter stands behind a backslash
+-- the byte for which one letter stands after a backslash
 abbrev pub letter_escape : ℕ → Option ℕ
 letter_escape b =
     if nat_eq b 97 then Some 7
@@ -271,7 +275,9 @@ decimal_escape x = if nat_le x.0 255 then Some (x.0 ∷ [], x.1) else None
 abbrev pub hex_escape : List ℕ → Option (List ℕ × List ℕ)
 hex_escape [] = None
 hex_escape (b ∷ []) = None
-hex_escape (b ∷ c ∷ bs) = if is_hex_digit b && is_hex_digit c then Some ((hex_value b * 16 + hex_value c) ∷ [], bs) else None
+hex_escape (b ∷ c ∷ bs) =
+    if is_hex_digit b && is_hex_digit c then Some ((hex_value b * 16 + hex_value c) ∷ [], bs) else
+    None
 
 -- UTF-8 in its older form of up to six bytes, of a number below 2^31
 abbrev pub tail_byte : ℕ → ℕ → ℕ
@@ -282,19 +288,25 @@ utf8 n =
     if nat_lt n 0x80 then n ∷ []
     else (if nat_lt n 0x800 then (192 + n / 64) ∷ tail_byte n 1 ∷ []
     else (if nat_lt n 0x10000 then (224 + n / 4096) ∷ tail_byte n 64 ∷ tail_byte n 1 ∷ []
-    else (if nat_lt n 0x200000 then (240 + n / 262144) ∷ tail_byte n 4096 ∷ tail_byte n 64 ∷ tail_byte n 1 ∷ []
-    else (if nat_lt n 0x4000000 then (248 + n / 16777216) ∷ tail_byte n 262144 ∷ tail_byte n 4096 ∷ tail_byte n 64 ∷ tail_byte n 1 ∷ []
-    else (252 + n / 1073741824) ∷ tail_byte n 16777216 ∷ tail_byte n 262144 ∷ tail_byte n 4096 ∷ tail_byte n 64 ∷ tail_byte n 1 ∷ []))))
+    else (if nat_lt n 0x200000 then (240 + n / 262144) ∷ tail_byte n 4096 ∷ tail_byte n 64 ∷
+    tail_byte n 1 ∷ []
+    else (if nat_lt n 0x4000000 then (248 + n / 16777216) ∷ tail_byte n 262144 ∷ tail_byte n 4096 ∷
+    tail_byte n 64 ∷ tail_byte n 1 ∷ []
+    else (252 + n / 1073741824) ∷ tail_byte n 16777216 ∷ tail_byte n 262144 ∷ tail_byte n 4096 ∷
+    tail_byte n 64 ∷ tail_byte n 1 ∷ []))))
 
--- the digits between the braces, and what stands from behind them on
+-- the digits between the braces, and what stands after them
 abbrev pub code_point : List ℕ → List ℕ → Option (List ℕ × List ℕ)
 code_point [] bs = None
 code_point (d ∷ ds) [] = None
-code_point (d ∷ ds) (b ∷ bs) = if nat_eq b 125 && nat_lt (hex_number 0 (d ∷ ds)) (2 ^ 31) then Some (utf8 (hex_number 0 (d ∷ ds)), bs) else None
+code_point (d ∷ ds) (b ∷ bs) =
+    if nat_eq b 125 && nat_lt (hex_number 0 (d ∷ ds)) (2 ^ 31) then Some
+    (utf8 (hex_number 0 (d ∷ ds)), bs) else None
 
 abbrev pub unicode_escape : List ℕ → Option (List ℕ × List ℕ)
 unicode_escape [] = None
-unicode_escape (b ∷ bs) = if nat_eq b 123 then code_point (run is_hex_digit bs) (past is_hex_digit bs) else None
+unicode_escape (b ∷ bs) =
+    if nat_eq b 123 then code_point (run is_hex_digit bs) (past is_hex_digit bs) else None
 
 abbrev pub other_escape : ℕ → List ℕ → Option (List ℕ × List ℕ)
 other_escape b bs =
@@ -308,24 +320,31 @@ abbrev pub letter_or_other : ℕ → List ℕ → Option ℕ → Option (List �
 letter_or_other b bs (Some c) = Some (c ∷ [], bs)
 letter_or_other b bs None = other_escape b bs
 
--- the bytes for which the escape stands that begins behind a backslash, and what stands behind it
+-- the bytes for which the escape stands that begins after a backslash, and what stands after it
 unfoldable pub escape : List ℕ → Option (List ℕ × List ℕ)
 escape [] = None
 escape (b ∷ bs) = letter_or_other b bs (letter_escape b)
 
--- behind an opening quote: up to the same quote, and here the bytes for which it stands, and what stands behind it
+-- after an opening quote: up to the same quote, and here the bytes for which it stands, and what
+-- stands after it
 pub data Quoted (quote : ℕ) : List ℕ → List ℕ → List ℕ → Type 0 where
   close : (b : ℕ) (rest : List ℕ) → nat_eq b quote ≡ true → Quoted quote (b ∷ rest) [] rest
-  plain : (b : ℕ) (bs value rest : List ℕ) → is_plain quote b ≡ true → Quoted quote bs value rest → Quoted quote (b ∷ bs) (b ∷ value) rest
-  escaped : (bs front behind value rest : List ℕ) → escape bs ≡ Some (front, behind) → Quoted quote behind value rest → Quoted quote (92 ∷ bs) (front ++ value) rest
+  plain : (b : ℕ) (bs value rest : List ℕ) → is_plain quote b ≡ true → Quoted quote bs value rest
+      → Quoted quote (b ∷ bs) (b ∷ value) rest
+  escaped : (bs front behind value rest : List ℕ) → escape bs ≡ Some (front, behind)
+      → Quoted quote behind value rest → Quoted quote (92 ∷ bs) (front ++ value) rest
 
 abbrev pub breaks_off : List ℕ → Bool
 breaks_off [] = true
 breaks_off (b ∷ bs) = is_line_end b
 
--- behind an opening quote: up to the first of a bad escape, and of a line end without backslash or the end of the script; `at` is the place of the string
+-- after an opening quote: up to the first of a bad escape, and of a line end without backslash or
+-- the end of the script; `at` is the place of the string
 pub data Broken (at : List ℕ) (quote : ℕ) : List ℕ → Why × List ℕ → Type 0 where
   ends : (bs : List ℕ) → breaks_off bs ≡ true → Broken at quote bs (OpenString, at)
   wrong : (bs : List ℕ) → escape bs ≡ None → Broken at quote (92 ∷ bs) (BadEscape, 92 ∷ bs)
-  behind_plain : (b : ℕ) (bs : List ℕ) (stop : Why × List ℕ) → is_plain quote b ≡ true → Broken at quote bs stop → Broken at quote (b ∷ bs) stop
-  behind_escape : (bs front behind : List ℕ) (stop : Why × List ℕ) → escape bs ≡ Some (front, behind) → Broken at quote behind stop → Broken at quote (92 ∷ bs) stop
+  behind_plain : (b : ℕ) (bs : List ℕ) (stop : Why × List ℕ) → is_plain quote b ≡ true
+      → Broken at quote bs stop → Broken at quote (b ∷ bs) stop
+  behind_escape : (bs front behind : List ℕ) (stop : Why × List ℕ)
+      → escape bs ≡ Some (front, behind) → Broken at quote behind stop
+      → Broken at quote (92 ∷ bs) stop

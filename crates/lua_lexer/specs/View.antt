@@ -7,6 +7,7 @@ use Rattle.lua_tokens.specs.declared.Lexeme.TheVariants as l
 use Rattle.lua_tokens.specs.declared.Sign.{Sign}
 use Rattle.lua_tokens.specs.declared.Token.{Token}
 use Rattle.lua_tokens.specs.declared.Place.{Place}
+use Rattle.lua_lexer.specs.declared.limit.TheConstants.{LONGEST}
 use Rattle.lua_lexer.specs.declared.stop.Why.{Why}
 use Rattle.lua_lexer.specs.declared.stop.Why.TheVariants as why
 use Rattle.lua_lexer.specs.declared.stop.Stop.{Stop}
@@ -68,7 +69,9 @@ marks ts = map token ts
 
 -- this is the fault of the script, at its place
 abbrev pub FailsAt : List ℕ → Why → Place → Type 0
-FailsAt script why p = (rest : List ℕ) × LexFails script (why, rest) × (p.at ≡ place script rest) × (p.line ≡ line script rest)
+FailsAt script why p =
+    (rest : List ℕ) × LexFails script (why, rest) × (p.at ≡ place script rest) × (p.line
+    ≡ line script rest)
 
 -- what a fault says of a script
 abbrev pub IsFault : List ℕ → LexFault → Type 0
@@ -78,7 +81,7 @@ IsFault script (f.FloatNumeral p) = FailsAt script why.FloatNumeral p
 IsFault script (f.BadEscape p) = FailsAt script why.BadEscape p
 IsFault script (f.OpenString p) = FailsAt script why.OpenString p
 IsFault script (f.OpenComment p) = FailsAt script why.OpenComment p
-IsFault script f.TooLong = 1048576 < length script
+IsFault script f.TooLong = LONGEST < length script
 IsFault script f.Memory = Unit {0}
 
 -- the bytes that an escape gives
@@ -102,7 +105,7 @@ Stores bs (Ok v) = v.items ≡ bs
 Stores bs (Err Memory) = Unit {0}
 Stores bs (Err _) = ⊥
 
--- the bytes of a string behind its quote, or what breaks it off
+-- the bytes of a string after its quote, or what breaks it off
 abbrev pub ReadsString : List ℕ → ℕ → List ℕ → Result (Vec ℕ Global × Bor (List ℕ)) Stop → Type 0
 ReadsString at quote bs (Ok x) = Quoted quote bs x.0.items x.1.now
 ReadsString at quote bs (Err (At why rest)) = Broken at quote bs (why, rest.now)

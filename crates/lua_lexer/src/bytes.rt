@@ -137,7 +137,7 @@ pub fn past_line(bytes: &[u8]) -> &[u8]
     left
 }
 
-/// How many equals signs there are at the front, and what stands behind them.
+/// How many equals signs there are at the front, and what stands after them.
 pub fn equals(bytes: &[u8]) -> (usize, &[u8])
     ensures count { result.0 ≡ length (spec.run spec.is_equals bytes.now) }
     ensures rest { result.1.now ≡ spec.past spec.is_equals bytes.now }
@@ -151,7 +151,7 @@ pub fn equals(bytes: &[u8]) -> (usize, &[u8])
     (count, left)
 }
 
-/// What stands behind the line end at the front, if there is one.
+/// What stands after the line end at the front, if there is one.
 pub fn past_line_end(bytes: &[u8]) -> &[u8]
     ensures { result.now ≡ spec.past_line_end bytes.now }
 {

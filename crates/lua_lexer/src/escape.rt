@@ -19,7 +19,7 @@ pub enum Piece {
     Point(u32),
 }
 
-/// The byte for which one letter stands behind a backslash.
+/// The byte for which one letter stands after a backslash.
 fn letter_escape(letter: u8) -> Option<u8>
     ensures { result ≡ spec.letter_escape letter }
 {
@@ -117,7 +117,7 @@ fn past_hex_digits(bytes: &[u8]) -> &[u8]
     left
 }
 
-/// The hexadecimal digits at the front, and what stands behind them.
+/// The hexadecimal digits at the front, and what stands after them.
 #[tactic(auto, using(crate::proofs::Runs::run_rules))]
 fn split_hex_digits(bytes: &[u8]) -> (&[u8], &[u8])
     ensures run { result.0.now ≡ byte.run byte.is_hex_digit bytes.now }
@@ -146,7 +146,7 @@ fn code_number(digits: &[u8]) -> Option<u32>
     Some(number)
 }
 
-/// The digits between the braces, and what stands from behind them on.
+/// The digits between the braces, and what stands after them.
 #[tactic(auto, using(crate::proofs::Codes::point_rules))]
 fn code_point<'a>(digits: &[u8], bytes: &'a [u8]) -> Option<(Piece, &'a [u8])>
     requires { list_all byte.is_hex_digit digits.now ≡ true }
@@ -177,7 +177,8 @@ fn unicode_escape(bytes: &[u8]) -> Option<(Piece, &[u8])>
     code_point(digits, behind)
 }
 
-/// An escape that is no single letter: `bytes` are those behind the backslash, `rest` those behind their first one.
+/// An escape that is no single letter: `bytes` are those after the backslash, `rest` those after
+/// their first one.
 fn other_escape<'a>(first: u8, rest: &'a [u8], bytes: &'a [u8]) -> Option<(Piece, &'a [u8])>
     requires { bytes.now ≡ first ∷ rest.now }
     ensures { seen_piece result ≡ spec.other_escape first rest.now }
@@ -197,7 +198,8 @@ fn other_escape<'a>(first: u8, rest: &'a [u8], bytes: &'a [u8]) -> Option<(Piece
     }
 }
 
-/// What the escape stands for that begins behind a backslash, and what stands behind it; none where it is no escape.
+/// What the escape stands for that begins after a backslash, and what stands after it; none where
+/// it is no escape.
 #[tactic(auto, unfolding(crate::specs::Spellings::escape))]
 pub fn escape(bytes: &[u8]) -> Option<(Piece, &[u8])>
     ensures { seen_piece result ≡ spec.escape bytes.now }
@@ -211,7 +213,7 @@ pub fn escape(bytes: &[u8]) -> Option<(Piece, &[u8])>
     }
 }
 
-/// A byte of UTF-8 behind the first one, for the six bits from this unit on.
+/// A byte of UTF-8 after the first one, for the six bits from this unit on.
 fn tail_byte(number: u32, unit: u32) -> u8
     requires { 0 < unit }
     ensures { result ≡ spec.tail_byte number unit }

@@ -1,27 +1,70 @@
 //! Why a script has no list of tokens.
+ghost use Rattle.std.specs.Prelude.{◌≡◌};
+ghost use Rattle.lua_lexer.specs.Faults.{fault_line, fault_text};
 
 use lua_tokens::Place;
-use thiserror::Error;
+use std::fmt;
 
-/// Why a script has no list of tokens. The place is where the token or comment begins that doesn't stand there, or the
-/// backslash of a bad escape.
-#[derive(Clone, Copy, Debug, Error, PartialEq, Eq)]
+/// Why a script has no list of tokens. The place is where the token or comment begins that doesn't
+/// stand there, or the backslash of a bad escape.
+#[derive(Clone, Copy, PartialEq, Eq)]
 pub enum LexFault {
-    #[error("unexpected byte")]
     BadByte(Place),
-    #[error("malformed numeral")]
     BadNumeral(Place),
-    #[error("float numeral")]
     FloatNumeral(Place),
-    #[error("invalid escape")]
     BadEscape(Place),
-    #[error("unfinished string")]
     OpenString(Place),
-    #[error("unfinished comment")]
     OpenComment(Place),
-    /// The script has more than 1,048,576 bytes.
-    #[error("script too long")]
+    /// The script has more than `LONGEST` bytes.
     TooLong,
-    #[error("not enough memory")]
     Memory,
+}
+
+impl LexFault {
+    /// The line of the place, from 1 on. A fault without a place has line 0.
+    pub fn line(self) -> u32
+        ensures { result ≡ fault_line self }
+    {
+        match self {
+            LexFault::BadByte(place)
+            | LexFault::BadNumeral(place)
+            | LexFault::FloatNumeral(place)
+            | LexFault::BadEscape(place)
+            | LexFault::OpenString(place)
+            | LexFault::OpenComment(place) => place.line,
+            LexFault::TooLong | LexFault::Memory => 0,
+        }
+    }
+
+    /// What the fault says.
+    pub fn text(self) -> &'static [u8]
+        ensures { result.now ≡ fault_text self }
+    {
+        match self {
+            LexFault::BadByte(_) => b"unexpected byte",
+            LexFault::BadNumeral(_) => b"malformed numeral",
+            LexFault::FloatNumeral(_) => b"float numeral",
+            LexFault::BadEscape(_) => b"invalid escape",
+            LexFault::OpenString(_) => b"unfinished string",
+            LexFault::OpenComment(_) => b"unfinished comment",
+            LexFault::TooLong => b"script too long",
+            LexFault::Memory => b"not enough memory",
+        }
+    }
+}
+
+impl fmt::Debug for LexFault {
+    fn fmt<W: fmt::Write>(&self, f: &mut fmt::Formatter<W>) -> fmt::Result {
+        let name = match self {
+            LexFault::BadByte(_) => "BadByte",
+            LexFault::BadNumeral(_) => "BadNumeral",
+            LexFault::FloatNumeral(_) => "FloatNumeral",
+            LexFault::BadEscape(_) => "BadEscape",
+            LexFault::OpenString(_) => "OpenString",
+            LexFault::OpenComment(_) => "OpenComment",
+            LexFault::TooLong => "TooLong",
+            LexFault::Memory => "Memory",
+        };
+        f.write_str(name)
+    }
 }

@@ -44,7 +44,7 @@ fn close_at(level: usize, bytes: &[u8]) -> Option<usize>
     None
 }
 
-/// The bytes up to the first closing bracket of this level, and those behind it.
+/// The bytes up to the first closing bracket of this level, and those after it.
 pub fn up_to_close(level: usize, bytes: &[u8]) -> Option<(&[u8], &[u8])>
     ensures { seen_pair result ≡ spec.up_to_close level bytes.now }
 {
@@ -75,7 +75,7 @@ pub fn opens(bytes: &[u8]) -> Option<(usize, &[u8])>
     }
 }
 
-/// The bytes behind `--`, where it stands here.
+/// The bytes after `--`, where it stands here.
 pub fn dashes(bytes: &[u8]) -> Option<&[u8]>
     ensures { seen_bytes result ≡ spec.dashes bytes.now }
 {
@@ -85,8 +85,8 @@ pub fn dashes(bytes: &[u8]) -> Option<&[u8]>
     }
 }
 
-/// What stands behind the comment of which these bytes stand behind its `--`; none where its long bracket isn't closed.
-/// A call of its own keeps the loop over blanks short.
+/// What stands after the comment of which these bytes stand after its `--`; none where its long
+/// bracket isn't closed. A call of its own keeps the loop over blanks short.
 #[inline(never)]
 fn comment(bytes: &[u8]) -> Option<&[u8]>
     ensures { seen_bytes result ≡ spec.comment bytes.now }
@@ -100,7 +100,7 @@ fn comment(bytes: &[u8]) -> Option<&[u8]>
     }
 }
 
-/// What stands behind the blanks and comments that come next.
+/// What stands after the blanks and comments that come next.
 #[tactic(auto, using(crate::proofs::Gaps::gap_rules))]
 pub fn gap(bytes: &[u8]) -> &[u8]
     ensures { Gap bytes.now result.now }

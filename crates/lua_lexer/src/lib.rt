@@ -1,18 +1,17 @@
-//! The tokens of a script: names, reserved words, numerals, strings and signs, with their places, or the fault at the first
-//! place where none stands (Lua manual, section 3.1).
+//! The tokens of a script: names, reserved words, numerals, strings and signs, with their places,
+//! or the fault at the first place where none stands (Lua manual, section 3.1).
 #![tactic(auto)]
 
 mod bytes;
 mod escape;
 mod fault;
 mod gap;
+mod limit;
 mod numeral;
 mod script;
 mod sign;
 mod spelling;
 mod stop;
-#[cfg(test)]
-mod tests;
 mod text;
 mod token;
 mod word;
@@ -24,13 +23,11 @@ ghost use Rattle.lua_lexer.specs.View.{marks, placed, IsFault};
 use bytes::line_ends;
 pub use fault::LexFault;
 use lanes_arena::Bytes;
+pub use limit::LONGEST;
 pub use lua_tokens::{Lexeme, Place, Sign, Token, TokenList, Word};
 use std::alloc::Global;
 use stop::{Stop, Why};
 pub use token::token_bytes;
-
-/// The greatest length of a script, in bytes.
-const LONGEST: usize = 1048576;
 
 /// The fault at this place.
 fn fault_at(why: Why, place: Place) -> LexFault
@@ -46,16 +43,17 @@ fn fault_at(why: Why, place: Place) -> LexFault
     }
 }
 
-/// The tokens of a script, in order, with `End` last. Each has the place of its first byte: its offset from 0, and its line
-/// from 1, where LF, CR, CR LF and LF CR end a line, inside strings and comments too. A text has its escapes and line ends
-/// already turned into bytes. Names, and strings without an escape, share the bytes of the script. `TooLong` comes exactly
-/// where the script has more than 1,048,576 bytes, and first of all. Else the fault is answered of the first place where a
-/// token must begin and none does (manual, section 3.1).
+/// The tokens of a script, in order, with `End` last. Each has the place of its first byte: its
+/// offset from 0, and its line from 1, where LF, CR, CR LF and LF CR end a line, inside strings and
+/// comments too. A text has its escapes and line ends already turned into bytes. Names, and strings
+/// without an escape, share the bytes of the script. `TooLong` comes exactly where the script has
+/// more than `LONGEST` bytes, and first of all. Else the fault is answered of the first place where
+/// a token must begin and none does (manual, section 3.1).
 #[tactic(auto, using(crate::proofs::Turns::fault_rules))]
 pub fn tokens(alloc: Global, script: &Bytes) -> Result<TokenList, LexFault>
     ensures tokens { IfOk result (λ found. Lexes script.now (marks found)) }
     ensures fault { IfErr result (λ fault. IsFault script.now fault) }
-    ensures too_long { IsErrOf result LexFault.TooLong ↔ (1048576 < length script.now) }
+    ensures too_long { IsErrOf result LexFault.TooLong ↔ (LONGEST < length script.now) }
 {
     let bytes = script.as_slice();
     if bytes.len() > LONGEST {

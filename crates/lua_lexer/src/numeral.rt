@@ -64,7 +64,7 @@ fn past_run(hex: bool, bytes: &[u8]) -> &[u8]
     left
 }
 
-/// The run of a numeral, and what stands behind it.
+/// The run of a numeral, and what stands after it.
 #[tactic(auto, using(crate::proofs::Runs::numeral_rules))]
 fn split_run(bytes: &[u8]) -> (&[u8], &[u8])
     ensures run { result.0.now ≡ spell.numeral_run bytes.now }

@@ -8,6 +8,7 @@ ghost use Rattle.lua_lexer.specs.View.{Answers, lex};
 
 use crate::bytes::{line_ends, next, past_line};
 use crate::gap::gap;
+use crate::limit::LONGEST;
 use crate::spelling::spelling;
 use crate::stop::Stop;
 use lanes_arena::Bytes;
@@ -40,10 +41,11 @@ fn lines(what: &Lexeme, here: &[u8], rest: &[u8]) -> usize
     }
 }
 
-/// The tokens of a script, or why there are none. The names share the bytes of the text, which is the script.
+/// The tokens of a script, or why there are none. The names share the bytes of the text, which is
+/// the script.
 pub fn all<'a>(alloc: Global, text: &Bytes, script: &'a [u8]) -> Result<TokenList, Stop<'a>>
     requires same { text.now ≡ script.now }
-    requires within { length script.now ≤ 1048576 }
+    requires within { length script.now ≤ LONGEST }
     ensures { Answers script.now result }
 {
     let mut found = TokenList::new(alloc);

@@ -32,7 +32,7 @@ fn single(byte: u8) -> Option<Sign>
     }
 }
 
-/// The sign that begins with this byte, the longest that the bytes behind it allow.
+/// The sign that begins with this byte, the longest that the bytes after it allow.
 #[tactic(auto, unfolding(crate::specs::Reading::sign_at))]
 pub fn sign_at(first: u8, rest: &[u8]) -> Option<(Sign, &[u8])>
     ensures { seen_sign result ≡ spec.sign_at first rest.now }

@@ -67,9 +67,10 @@ fn bracketed<'a>(
     }
 }
 
-/// The token that stands here, the end included, or why none does. The bytes are the end of the script.
+/// The token that stands here, the end included, or why none does. The bytes are the end of the
+/// script.
 #[inline(always)]
-#[tactic(auto, using(crate::proofs::Fronts::behind_rules), unfolding(crate::specs::Reading::spelling))]
+#[tactic(auto, using(crate::proofs::Fronts::rules), unfolding(crate::specs::Reading::spelling))]
 pub fn spelling<'a>(
     alloc: Global,
     script: &Bytes,

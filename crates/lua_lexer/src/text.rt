@@ -21,7 +21,7 @@ fn is_plain(quote: u8, b: u8) -> bool
     !(b == quote || b == b'\\' || is_line_end(b))
 }
 
-/// What stands behind the plain bytes.
+/// What stands after the plain bytes.
 fn past_plain(quote: u8, bytes: &[u8]) -> &[u8]
     ensures { result.now ≡ byte.past (spell.is_plain quote) bytes.now }
 {
@@ -35,7 +35,7 @@ fn past_plain(quote: u8, bytes: &[u8]) -> &[u8]
     left
 }
 
-/// The plain bytes, and what stands behind them.
+/// The plain bytes, and what stands after them.
 #[tactic(auto, using(crate::proofs::Runs::run_rules))]
 fn split_plain(quote: u8, bytes: &[u8]) -> (&[u8], &[u8])
     ensures run { result.0.now ≡ byte.run (spell.is_plain quote) bytes.now }
@@ -46,7 +46,8 @@ fn split_plain(quote: u8, bytes: &[u8]) -> (&[u8], &[u8])
     (run, behind)
 }
 
-/// A string, behind its quote. `at` is the script from the quote on. Room is made for this many bytes of it at first.
+/// A string, after its quote. `at` is the script from the quote on. Room is made for this many
+/// bytes of it at first.
 fn string<'a>(
     alloc: Global,
     at: &'a [u8],
@@ -96,7 +97,8 @@ fn stored<'a>(
     }
 }
 
-/// The string that begins with this quote. It shares the bytes of the script where no escape stands in it.
+/// The string that begins with this quote. It shares the bytes of the script where no escape stands
+/// in it.
 #[tactic(auto, using(crate::proofs::Strings::plain_front))]
 pub fn string_at<'a>(
     alloc: Global,
@@ -137,7 +139,7 @@ fn line_feeds(alloc: Global, bytes: &[u8]) -> Result<Vec<u8>, Stop<'_>>
     Ok(found)
 }
 
-/// The string in a long bracket of this level, of the bytes behind its opening.
+/// The string in a long bracket of this level, of the bytes after its opening.
 pub fn bracket_at<'a>(
     alloc: Global,
     at: &'a [u8],

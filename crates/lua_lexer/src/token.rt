@@ -8,8 +8,8 @@ use crate::stop::Stop;
 use lanes_arena::{Bytes, Memory};
 use std::alloc::Global;
 
-/// The bytes of the token that stands at this offset of a script, or none where no token does, as at its end and past it. They are shared
-/// with the script. The only refusal is want of memory.
+/// The bytes of the token that stands at this offset of a script, or none where no token does, as
+/// at its end and past it. They are shared with the script. The only refusal is want of memory.
 #[tactic(auto, using(crate::proofs::Shown::shown_rules))]
 pub fn token_bytes(alloc: Global, script: &Bytes, at: usize) -> Result<Option<Bytes>, Memory>
     ensures { IfOk result (λ text. SpelledAt (drop at script.now) text) }

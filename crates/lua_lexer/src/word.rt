@@ -132,7 +132,7 @@ fn keyword(text: &[u8]) -> Option<Word>
     }
 }
 
-/// The run of letters, digits and underscores, and what stands behind it.
+/// The run of letters, digits and underscores, and what stands after it.
 #[tactic(auto, using(crate::proofs::Runs::run_rules))]
 fn split_word(bytes: &[u8]) -> (&[u8], &[u8])
     ensures run { result.0.now ≡ run is_word bytes.now }

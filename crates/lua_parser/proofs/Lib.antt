@@ -12,11 +12,12 @@ pub mod ForBlockSteps
 pub mod LocalSteps
 pub mod FunctionSteps
 pub mod TargetSteps
+pub mod Steps
+pub mod Standing
+pub mod JumpSteps
 pub mod OneStats
 pub mod PrefixTurns
 pub mod StatTurns
-pub mod Standing
-pub mod Steps
 pub mod ArgTurns
 pub mod Knots
 pub mod ScriptEnds

@@ -134,7 +134,7 @@ module _ (d : ℕ) (ts : List Token) where
   unfolding unary_at
   operand_none a n m o f h = past_function a n m o f ∙ look_miss a_unary _ _ _ ts h
 
-pub ruleset operand_rules = (
+pub ruleset rules = (
   operand_atom,
   operand_name,
   operand_name_alone,

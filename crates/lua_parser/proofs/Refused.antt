@@ -5,9 +5,10 @@ use Rattle.lua_tokens.specs.declared.token.Token.{Token}
 use Rattle.lua_tree.specs.declared.stat.Tree.{Tree}
 use Rattle.lua_grammar.specs.Depth.{depth_of}
 use Rattle.lua_grammar.specs.Grammar.{Spells, Viable, IsRefused, IsAttribute}
+use Rattle.lua_parser.specs.declared.script.TheConstants.{DEEPEST}
 use Rattle.lua_parser.specs.declared.fault.ParseFault.{ParseFault}
-use Rattle.lua_parser.specs.declared.fault.ParseFault.TheVariants.{Unexpected, FloatOperator, TooDeep, GotoNotHere, BadAttribute, Memory}
-use Rattle.lua_parser.specs.Answers.{deepest, IsFloatOperator, IsGoto, IsKind, place_of, IsFault}
+use Rattle.lua_parser.specs.declared.fault.ParseFault.TheVariants.{Unexpected, FloatOperator, TooDeep, BadAttribute, Memory}
+use Rattle.lua_parser.specs.Answers.{IsFloatOperator, IsKind, place_of, IsFault}
 
 -- ---- one refused token
 
@@ -58,19 +59,9 @@ module _ (tokens : List Token) (d : ℕ) (a : List Token) (x : Token) (u b : Lis
 
 -- ---- one kind
 
-float_no_goto : (x : Token) → IsFloatOperator x → IsGoto x → ⊥
-float_no_goto x (inl e) (inl f) = cc
-float_no_goto x (inl e) (inr f) = cc
-float_no_goto x (inr e) (inl f) = cc
-float_no_goto x (inr e) (inr f) = cc
-
-float_no_attribute : (before : List Token) (x : Token) → IsFloatOperator x → IsAttribute before deepest x → ⊥
+float_no_attribute : (before : List Token) (x : Token) → IsFloatOperator x → IsAttribute before DEEPEST x → ⊥
 float_no_attribute before x (inl e) a = (let is = ap (λ (z : Token). z.what) a.is in cc)
 float_no_attribute before x (inr e) a = (let is = ap (λ (z : Token). z.what) a.is in cc)
-
-goto_no_attribute : (before : List Token) (x : Token) → IsGoto x → IsAttribute before deepest x → ⊥
-goto_no_attribute before x (inl e) a = (let is = ap (λ (z : Token). z.what) a.is in cc)
-goto_no_attribute before x (inr e) a = (let is = ap (λ (z : Token). z.what) a.is in cc)
 
 same_place : (p q r : Place) → Some p ≡ Some r → Some q ≡ Some r → p ≡ q
 same_place p q r e f = cc
@@ -79,32 +70,22 @@ module _ (before : List Token) (x : Token) where
   same_kind : (f g : ParseFault) → place_of f ≡ Some x.place → place_of g ≡ Some x.place → IsKind f before x → IsKind g before x → f ≡ g
   same_kind (TooDeep p) (TooDeep q) e h k m = ap TooDeep (same_place p q x.place e h)
   same_kind (TooDeep p) (FloatOperator q) e h k m = absurd (m.0 k)
-  same_kind (TooDeep p) (GotoNotHere q) e h k m = absurd (m.0 k)
   same_kind (TooDeep p) (BadAttribute q) e h k m = absurd (m.0 k)
   same_kind (TooDeep p) (Unexpected q) e h k m = absurd (m.0 k)
   same_kind (TooDeep p) Memory e h k m = absurd m
   same_kind (FloatOperator p) (TooDeep q) e h k m = absurd (k.0 m)
   same_kind (FloatOperator p) (FloatOperator q) e h k m = ap FloatOperator (same_place p q x.place e h)
-  same_kind (FloatOperator p) (GotoNotHere q) e h k m = absurd (float_no_goto x k.1 m.1)
   same_kind (FloatOperator p) (BadAttribute q) e h k m = absurd (float_no_attribute before x k.1 m.1)
   same_kind (FloatOperator p) (Unexpected q) e h k m = absurd (m.1 k.1)
   same_kind (FloatOperator p) Memory e h k m = absurd m
-  same_kind (GotoNotHere p) (TooDeep q) e h k m = absurd (k.0 m)
-  same_kind (GotoNotHere p) (FloatOperator q) e h k m = absurd (float_no_goto x m.1 k.1)
-  same_kind (GotoNotHere p) (GotoNotHere q) e h k m = ap GotoNotHere (same_place p q x.place e h)
-  same_kind (GotoNotHere p) (BadAttribute q) e h k m = absurd (goto_no_attribute before x k.1 m.1)
-  same_kind (GotoNotHere p) (Unexpected q) e h k m = absurd (m.2 k.1)
-  same_kind (GotoNotHere p) Memory e h k m = absurd m
   same_kind (BadAttribute p) (TooDeep q) e h k m = absurd (k.0 m)
   same_kind (BadAttribute p) (FloatOperator q) e h k m = absurd (float_no_attribute before x m.1 k.1)
-  same_kind (BadAttribute p) (GotoNotHere q) e h k m = absurd (goto_no_attribute before x m.1 k.1)
   same_kind (BadAttribute p) (BadAttribute q) e h k m = ap BadAttribute (same_place p q x.place e h)
-  same_kind (BadAttribute p) (Unexpected q) e h k m = absurd (m.3 k.1)
+  same_kind (BadAttribute p) (Unexpected q) e h k m = absurd (m.2 k.1)
   same_kind (BadAttribute p) Memory e h k m = absurd m
   same_kind (Unexpected p) (TooDeep q) e h k m = absurd (k.0 m)
   same_kind (Unexpected p) (FloatOperator q) e h k m = absurd (k.1 m.1)
-  same_kind (Unexpected p) (GotoNotHere q) e h k m = absurd (k.2 m.1)
-  same_kind (Unexpected p) (BadAttribute q) e h k m = absurd (k.3 m.1)
+  same_kind (Unexpected p) (BadAttribute q) e h k m = absurd (k.2 m.1)
   same_kind (Unexpected p) (Unexpected q) e h k m = ap Unexpected (same_place p q x.place e h)
   same_kind (Unexpected p) Memory e h k m = absurd m
   same_kind Memory g e h k m = absurd k
@@ -113,12 +94,12 @@ module _ (before : List Token) (x : Token) where
 
 pub one_fault : (tokens : List Token) (f g : ParseFault) → IsFault tokens f → IsFault tokens g → f ≡ g
 one_fault tokens f g p q =
-    let s : SameToken p.before p.refused q.before q.refused = same_refused tokens deepest p.before p.refused p.after q.before q.refused q.after p.is q.is in
+    let s : SameToken p.before p.refused q.before q.refused = same_refused tokens DEEPEST p.before p.refused p.after q.before q.refused q.after p.is q.is in
     let there : place_of g ≡ Some p.refused.place = q.place ∙ ap (λ (z : Token). Some z.place) (sym s.token) in
     let kind : IsKind g p.before p.refused = subst (λ z. IsKind g p.before z) (sym s.token) (subst (λ z. IsKind g z q.refused) (sym s.before) q.kind) in
     same_kind p.before p.refused f g p.place there p.kind kind
 
 -- tokens that spell a tree have no fault
-pub no_fault : (tokens : List Token) (tree : Tree) (f : ParseFault) → Spells tree tokens → depth_of tree ≤ deepest → IsFault tokens f → ⊥
+pub no_fault : (tokens : List Token) (tree : Tree) (f : ParseFault) → Spells tree tokens → depth_of tree ≤ DEEPEST → IsFault tokens f → ⊥
 no_fault tokens tree f s low p =
     p.is.not_viable (record { after = p.after; tree = tree; spells = subst (Spells tree) (p.is.is ∙ sym (append_assoc p.before (p.refused ∷ []) p.after)) s; shallow = low })

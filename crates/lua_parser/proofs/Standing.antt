@@ -1,5 +1,5 @@
 -- What stands at a cursor, by the next token.
-use Rattle.std.proofs.Common.{◌≡◌, refl, sym, ◌∙◌, ap, ℕ, nat_eq, nat_le, ◌-◌, ◌<◌, ◌≤◌, Bool, true, false, if◌then◌else◌, ◌&&◌, List, [], ◌∷◌, length, take, drop, Option, Some, None, Ok, Err, arith}
+use Rattle.std.proofs.Common.{◌≡◌, refl, sym, ◌∙◌, ap, ℕ, nat_eq, nat_le, ◌<◌, ◌≤◌, Bool, true, false, if◌then◌else◌, ◌&&◌, List, [], ◌∷◌, Option, Some, None, Ok, Err}
 use Rattle.std.specs.Option.{is_some}
 use Rattle.std.proofs.lemmas.Bool.{eq-eqb, eqb-true, lt-leb, le-leb}
 use Rattle.lua_tokens.specs.declared.place.Place.{Place}
@@ -17,6 +17,8 @@ use Rattle.lua_grammar.specs.Next.{lexeme_number, same, a_name, a_text, an_atom,
 use Rattle.std.specs.Cmp.Lexicographic.{pointwise}
 use Rattle.lua_grammar.proofs.Local.{attribute_refused, attribute_taken, attribute_other}
 use Rattle.lua_grammar.proofs.Found.{IsFixed, is_found}
+use Rattle.lua_parser.specs.declared.start.Start.TheVariants.{End}
+use Rattle.lua_parser.specs.Starts.{start_of, start_at}
 use Rattle.lua_parser.specs.Looks.{rest, what_of, place_of, beside, look_at, name_at, text_at, kind_in, kind_at, op_at, unary_at, begins, begins_at, ends_at, is_suffix, suffix_at}
 
 pub rest_nil : rest [] ≡ []
@@ -67,6 +69,18 @@ word_hit w x ts e = place_hit (l.Word w) x ts e
 
 pub word_miss : (w : Word) (x : Token) (ts : List Token) → (x.what ≡ l.Word w → ⊥) → place_of (l.Word w) (x ∷ ts) ≡ None
 word_miss w x ts n = place_miss (l.Word w) tt x ts n
+
+-- ---- a statement
+
+pub start_nil : start_at [] ≡ End
+unfolding start_at
+start_nil = refl
+
+pub start_next : (x : Token) (ts : List Token) → start_at (x ∷ ts) ≡ start_of x.what
+unfolding start_at
+start_next x ts = refl
+
+pub ruleset start_rules = (start_nil, start_next)
 
 -- ---- a name or a text
 

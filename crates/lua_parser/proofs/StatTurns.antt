@@ -9,7 +9,6 @@ use Rattle.lua_tree.specs.declared.expr.Expr.{Expr}
 use Rattle.lua_tree.specs.declared.stat.Stat.{Stat}
 use Rattle.lua_tree.specs.declared.stat.Stat.TheVariants as st
 use Rattle.lua_grammar.specs.declared.measured.Measured.{Measured}
-use Rattle.lua_grammar.specs.Next.{a_name}
 use Rattle.lua_grammar.specs.Input.{Outcome, Parser, Stop, and_then, ◌>>=◌, pure, on, before, Turn, again, done}
 use Rattle.lua_grammar.specs.Expressions.{measured, name_leaf, nothing, with_one, list}
 use Rattle.lua_grammar.specs.Statements as spec
@@ -21,15 +20,23 @@ use Rattle.lua_grammar.proofs.Shorter.{parts_shorter}
 use Rattle.lua_parser.specs.Looks.{rest, place_of}
 use Rattle.lua_parser.specs.Steps.{over}
 use Rattle.lua_parser.proofs.Steps.{is_miss}
-use Rattle.lua_parser.proofs.NextFound.{it_stands, many_stops, many_ends}
-use Rattle.lua_grammar.specs.Next.{is_sign, is_word}
+use Rattle.lua_parser.proofs.NextFound.{many_stops, many_ends}
 use Rattle.std.proofs.Common.{sym, subst, if◌then◌else◌}
 use Rattle.lua_grammar.specs.Next.{ends_return}
 use Rattle.lua_grammar.proofs.Loops.{AtTurn, many_again, many_done}
 use Rattle.lua_parser.specs.Looks.{after, ends_at}
 use Rattle.lua_parser.proofs.Steps.{is_hit}
-use Rattle.lua_parser.specs.OneStat.{some_stat, simple_stat, nested_stat, or_nested, one_stat}
-use Rattle.lua_parser.proofs.SuffixSteps.{GoesOn, on_then}
+use Rattle.lua_tokens.specs.declared.token.Lexeme.{Lexeme}
+use Rattle.lua_grammar.specs.Tokens.{token}
+use Rattle.lua_grammar.specs.Input.{deep}
+use Rattle.lua_grammar.specs.Tokens.{name}
+use Rattle.std.proofs.Common.{Bool, ◌≤◌, arith}
+use Rattle.lua_parser.specs.declared.start.Start.{Start}
+use Rattle.lua_parser.specs.declared.start.Start.TheVariants.{Semicolon, Return, Name as Named, Stat as One, End}
+use Rattle.lua_parser.specs.declared.start.Kind.{Kind}
+use Rattle.lua_parser.specs.Starts.{start_of, start_at}
+use Rattle.lua_parser.specs.OneStat.{needs_name, name_stat, after_kind, one_stat}
+use Rattle.std.proofs.lemmas.Bool.{le-leb}
 
 -- ---- `return`
 
@@ -74,145 +81,119 @@ pub ruleset returned_rules = (returned_nothing, returned_values)
 
 pub ruleset return_rules = (return_read, return_stops)
 
--- ---- one statement
-
-module _ (d : ℕ) (ts : List Token) where
-  pub one_simple : (x : Measured Stat) (us : List Token) → simple_stat d ts ≡ Ok (Some x, us) → one_stat d ts ≡ Ok (Some x, us)
-  unfolding one_stat
-  one_simple x us h = ap (λ r. and_then r (or_nested d)) h
-
-  pub one_nested : (us : List Token) → simple_stat d ts ≡ Ok (None, us) → one_stat d ts ≡ nested_stat d us
-  unfolding one_stat
-  one_nested us h = ap (λ r. and_then r (or_nested d)) h
-
-  pub one_stops : (stop : Stop) → simple_stat d ts ≡ Err stop → one_stat d ts ≡ Err stop
-  unfolding one_stat
-  one_stops stop h = ap (λ r. and_then r (or_nested d)) h
-
-pub ruleset one_rules = (one_simple, one_nested, one_stops)
-
 -- ---- the turns
 
 module _ (d : ℕ) (found : Measured (List Stat)) where
-  abbrev ByOne : Option (Measured Stat) → Parser (Turn (Measured (List Stat)) (Measured (List Stat)))
-  ByOne None = pure (done found)
-  ByOne (Some x) = pure (again (with_one found x))
+  abbrev With : Measured Stat → Parser (Turn (Measured (List Stat)) (Measured (List Stat)))
+  With x = pure (again (with_one found x))
 
-  -- the words with which a statement begins that has a block
-  abbrev nested_turn : ℕ → Parser (Turn (Measured (List Stat)) (Measured (List Stat)))
-  nested_turn m =
-      on (is_word w.If) (nat_le 1 m) (λ _ _. over d spec.add found (over d spec.after_if))
-      (on (is_word w.For) (nat_le 1 m) (λ _ _. over d spec.add found (over d spec.after_for))
-      (on (is_word w.Function) (nat_le 2 m) (λ _ p. over d spec.add found (over d spec.after_function p))
-      (on (is_word w.While) (nat_le 1 m) (λ _ _. over d spec.add found (over d spec.after_while))
-      (on (is_word w.Repeat) (nat_le 1 m) (λ _ _. over d spec.add found (over d spec.after_repeat))
-      (on (is_word w.Do) (nat_le 1 m) (λ _ _. over d spec.add found (over d spec.after_do)) (pure (done found)))))))
+  -- what a turn gives, by what goes on with the block
+  abbrev by_start : Start → Parser (Turn (Measured (List Stat)) (Measured (List Stat)))
+  by_start Semicolon ts = Ok (again found, rest ts)
+  by_start Return ts = and_then (over d spec.after_return (rest ts)) (λ x. pure (done (with_one found x)))
+  by_start Named ts = and_then (name_stat d ts) With
+  by_start (One k) ts = and_then (one_stat d k ts) With
+  by_start End ts = Ok (done found, ts)
 
-  abbrev simple_turn : ℕ → Parser (Turn (Measured (List Stat)) (Measured (List Stat)))
-  simple_turn m =
-      on (is_word w.Break) true (λ _ p. pure (again (with_one found (measured (st.Break p) 0))))
-      (on a_name (nat_le 1 m) (λ n p. over d spec.add found (over d spec.begun (spec.as_variable (name_leaf n p))))
-      (on (is_sign s.OpenParen) (nat_le 3 m) (λ _ p. over d spec.add found (over d spec.after_open p))
-      (on (is_word w.Local) true (λ _ _. over d spec.add found (over d spec.after_local)) (nested_turn m))))
+  in_room : {B : Type 0} (c : Bool) (x : B) (f : B → Parser (Measured Stat)) (ts : List Token) (stop : Stop)
+      → (if c then and_then (f x ts) With else Err stop) ≡ and_then (and_then (if c then Ok (x, ts) else Err stop) f) With
+  in_room true x f ts stop = refl
+  in_room false x f ts stop = refl
 
-  abbrev BySimple : Option (Measured Stat) → Parser (Turn (Measured (List Stat)) (Measured (List Stat)))
-  BySimple None = nested_turn d
-  BySimple (Some x) = pure (again (with_one found x))
+  in_time : (c : Bool) (r : Outcome (Measured Stat)) (stop : Stop) → (if c then and_then r With else Err stop) ≡ and_then (if c then r else Err stop) With
+  in_time true r stop = refl
+  in_time false r stop = refl
 
-  one_added : (r : Outcome (Measured Stat)) → and_then r (λ x. pure (again (with_one found x))) ≡ and_then (some_stat r) ByOne
-  unfolding some_stat
-  one_added (Ok x) = refl
-  one_added (Err stop) = refl
+  roomy : (n : ℕ) (r : Outcome (Measured Stat)) (stop : Stop)
+      → (if nat_le n (parts d).depth then and_then r With else Err stop) ≡ and_then (if nat_le n d then r else Err stop) With
+  roomy n r stop = ap (λ m. if nat_le n m then and_then r With else Err stop) (parts_depth d) ∙ in_time (nat_le n d) r stop
 
-  simple_added : (r : Outcome (Measured Stat)) → and_then r (λ x. pure (again (with_one found x))) ≡ and_then (some_stat r) BySimple
-  unfolding some_stat
-  simple_added (Ok x) = refl
-  simple_added (Err stop) = refl
+  always : (r : Outcome (Measured Stat)) (stop : Stop) → and_then r With ≡ and_then (if nat_le 0 d then r else Err stop) With
+  always r stop = ap (λ c. and_then (if c then r else Err stop) With) (sym (le-leb 0 d (omega arith)))
 
-  add_one : (p : Parser (Measured Stat)) → GoesOn ByOne (over d spec.add found p) (λ us. some_stat (p us))
-  add_one p = record { by = λ us. one_added (p us) }
+  by_lexeme : (y : Lexeme) (p : Place) (ts : List Token) → over d spec.stat_turn found (token y p ∷ ts) ≡ by_start (start_of y) (token y p ∷ ts)
+  unfolding on rest name_stat after_kind one_stat needs_name
+  by_lexeme (l.Name n) p ts =
+      ap (λ m. if nat_le 1 m then and_then (over d spec.begun (spec.as_variable (name_leaf n p)) ts) With else Err (deep, name n p ∷ ts)) (parts_depth d)
+      ∙ in_room (nat_le 1 d) (n, p) (λ x. over d spec.begun (spec.as_variable (name_leaf x.0 x.1))) ts _
+  by_lexeme (l.Sign s.OpenParen) p ts = roomy 3 (over d spec.after_open p ts) _
+  by_lexeme (l.Sign s.ColonColon) p ts = always (spec.after_colons ts) _
+  by_lexeme (l.Word w.Break) p ts = always (Ok (measured (st.Break p) 0, ts)) _
+  by_lexeme (l.Word w.Goto) p ts = always (spec.after_goto ts) _
+  by_lexeme (l.Word w.Local) p ts = always (over d spec.after_local ts) _
+  by_lexeme (l.Word w.If) p ts = roomy 1 (over d spec.after_if ts) _
+  by_lexeme (l.Word w.For) p ts = roomy 1 (over d spec.after_for ts) _
+  by_lexeme (l.Word w.Function) p ts = roomy 2 (over d spec.after_function p ts) _
+  by_lexeme (l.Word w.While) p ts = roomy 1 (over d spec.after_while ts) _
+  by_lexeme (l.Word w.Repeat) p ts = roomy 1 (over d spec.after_repeat ts) _
+  by_lexeme (l.Word w.Do) p ts = roomy 1 (over d spec.after_do ts) _
+  by_lexeme _ p ts = refl
 
-  add_simple : (p : Parser (Measured Stat)) → GoesOn BySimple (over d spec.add found p) (λ us. some_stat (p us))
-  add_simple p = record { by = λ us. simple_added (p us) }
+  turn_by : (ts : List Token) → over d spec.stat_turn found ts ≡ by_start (start_at ts) ts
+  unfolding start_at on
+  turn_by [] = refl
+  turn_by (x ∷ ts) = by_lexeme x.what x.place ts
 
-  nested_goes : GoesOn ByOne (nested_turn d) (nested_stat d)
-  unfolding nested_stat
-  nested_goes =
-      on_then ByOne _ _ _ _ _ _ (λ _ _. add_one (over d spec.after_if))
-      (on_then ByOne _ _ _ _ _ _ (λ _ _. add_one (over d spec.after_for))
-      (on_then ByOne _ _ _ _ _ _ (λ _ p. add_one (over d spec.after_function p))
-      (on_then ByOne _ _ _ _ _ _ (λ _ _. add_one (over d spec.after_while))
-      (on_then ByOne _ _ _ _ _ _ (λ _ _. add_one (over d spec.after_repeat))
-      (on_then ByOne _ _ _ _ _ _ (λ _ _. add_one (over d spec.after_do)) (record { by = λ us. refl }))))))
-
-  simple_goes : GoesOn BySimple (simple_turn d) (simple_stat d)
-  unfolding simple_stat
-  simple_goes =
-      on_then BySimple _ _ _ _ _ _ (λ _ p. record { by = λ us. refl })
-      (on_then BySimple _ _ _ _ _ _ (λ n p. add_simple (over d spec.begun (spec.as_variable (name_leaf n p))))
-      (on_then BySimple _ _ _ _ _ _ (λ _ p. add_simple (over d spec.after_open p))
-      (on_then BySimple _ _ _ _ _ _ (λ _ _. add_simple (over d spec.after_local)) (record { by = λ us. refl }))))
-
-  one_joined : (r : Outcome (Option (Measured Stat))) → and_then r BySimple ≡ and_then (and_then r (or_nested d)) ByOne
-  one_joined (Ok x) = by_option x.0 x.1
-    where
-      by_option : (o : Option (Measured Stat)) (us : List Token) → BySimple o us ≡ and_then (or_nested d o us) ByOne
-      by_option None us = nested_goes.by us
-      by_option (Some x) us = refl
-  one_joined (Err stop) = refl
-
-  one_goes : (ts : List Token) → simple_turn d ts ≡ and_then (one_stat d ts) ByOne
-  unfolding one_stat
-  one_goes ts = simple_goes.by ts ∙ one_joined (simple_stat d ts)
-
-  stat_by : (ts : List Token) → place_of (l.Sign s.Semicolon) ts ≡ None → place_of (l.Word w.Return) ts ≡ None → over d spec.stat_turn found ts ≡ and_then (one_stat d ts) ByOne
-  stat_by ts a b = is_miss (l.Sign s.Semicolon) _ _ _ ts a ∙ is_miss (l.Word w.Return) _ _ _ ts b ∙ ap (λ m. simple_turn m ts) (parts_depth d) ∙ one_goes ts
+  turn_at : (ts : List Token) (o : Start) → start_at ts ≡ o → over d spec.stat_turn found ts ≡ by_start o ts
+  turn_at ts o e = turn_by ts ∙ ap (λ o. by_start o ts) e
 
 shrinks : (d : ℕ) → Shrinks (over d spec.stat_turn)
 shrinks d = shorter.stat_shrinks _ _ _ (parts_shorter d) (parts_shorter (d - 1)) (parts_shorter (d - 2))
 
 module _ (d : ℕ) (found : Measured (List Stat)) (ts : List Token) where
-  at_semicolon : (p : Place) → place_of (l.Sign s.Semicolon) ts ≡ Some p → over d spec.stat_turn found ts ≡ Ok (again found, rest ts)
-  unfolding on
-  at_semicolon p h = ap (over d spec.stat_turn found) (it_stands (l.Sign s.Semicolon) tt ts p h)
+  at_one : (k : Kind) (us : List Token) (x : Measured Stat) → start_at ts ≡ One k → one_stat d k ts ≡ Ok (x, us) → over d spec.stat_turn found ts ≡ Ok (again (with_one found x), us)
+  at_one k us x a e = turn_at d found ts (One k) a ∙ ap (λ r. and_then r (With d found)) e
 
-  at_return : (p : Place) → place_of (l.Word w.Return) ts ≡ Some p → over d spec.stat_turn found ts ≡ and_then (over d spec.after_return (rest ts)) (λ x. pure (done (with_one found x)))
-  unfolding on
-  at_return p h = ap (over d spec.stat_turn found) (it_stands (l.Word w.Return) tt ts p h)
-
-  at_one : (us : List Token) (x : Measured Stat) → place_of (l.Sign s.Semicolon) ts ≡ None → place_of (l.Word w.Return) ts ≡ None → one_stat d ts ≡ Ok (Some x, us)
-      → over d spec.stat_turn found ts ≡ Ok (again (with_one found x), us)
-  at_one us x a b e = stat_by d found ts a b ∙ ap (λ r. and_then r (ByOne d found)) e
-
-  pub stats_skip : (p : Place) → place_of (l.Sign s.Semicolon) ts ≡ Some p → over d spec.more_stats found ts ≡ over d spec.more_stats found (rest ts)
+  pub stats_skip : start_at ts ≡ Semicolon → over d spec.more_stats found ts ≡ over d spec.more_stats found (rest ts)
   unfolding spec.more_stats
-  stats_skip p h = many_again _ (shrinks d) found found ts (rest ts) (at_semicolon p h)
+  stats_skip h = many_again _ (shrinks d) found found ts (rest ts) (turn_at d found ts Semicolon h)
 
-  pub skip_less : (p : Place) → place_of (l.Sign s.Semicolon) ts ≡ Some p → length (rest ts) < length ts
-  skip_less p h = subst (λ r. AtTurn r ts) (at_semicolon p h) (shrinks d found ts)
+  pub skip_less : start_at ts ≡ Semicolon → length (rest ts) < length ts
+  skip_less h = subst (λ r. AtTurn r ts) (turn_at d found ts Semicolon h) (shrinks d found ts)
 
-  pub stats_return : (p : Place) (us : List Token) (x : Measured Stat) → place_of (l.Word w.Return) ts ≡ Some p → over d spec.after_return (rest ts) ≡ Ok (x, us) → over d spec.more_stats found ts ≡ Ok (with_one found x, us)
+  pub stats_return : (us : List Token) (x : Measured Stat) → start_at ts ≡ Return → over d spec.after_return (rest ts) ≡ Ok (x, us) → over d spec.more_stats found ts ≡ Ok (with_one found x, us)
   unfolding spec.more_stats
-  stats_return p us x h e = many_ends _ (shrinks d) found ts _ (with_one found) x us (at_return p h) e
+  stats_return us x h e = many_ends _ (shrinks d) found ts _ (with_one found) x us (turn_at d found ts Return h) e
 
-  pub stats_return_stops : (p : Place) (stop : Stop) → place_of (l.Word w.Return) ts ≡ Some p → over d spec.after_return (rest ts) ≡ Err stop → over d spec.more_stats found ts ≡ Err stop
+  pub stats_return_stops : (stop : Stop) → start_at ts ≡ Return → over d spec.after_return (rest ts) ≡ Err stop → over d spec.more_stats found ts ≡ Err stop
   unfolding spec.more_stats
-  stats_return_stops p stop h e = many_stops _ (shrinks d) found ts _ _ stop (at_return p h) e
+  stats_return_stops stop h e = many_stops _ (shrinks d) found ts _ _ stop (turn_at d found ts Return h) e
 
-  pub stats_one : (us : List Token) (x : Measured Stat) → place_of (l.Sign s.Semicolon) ts ≡ None → place_of (l.Word w.Return) ts ≡ None → one_stat d ts ≡ Ok (Some x, us)
-      → over d spec.more_stats found ts ≡ over d spec.more_stats (with_one found x) us
+  at_name : (us : List Token) (x : Measured Stat) → start_at ts ≡ Named → name_stat d ts ≡ Ok (x, us) → over d spec.stat_turn found ts ≡ Ok (again (with_one found x), us)
+  at_name us x a e = turn_at d found ts Named a ∙ ap (λ r. and_then r (With d found)) e
+
+  pub stats_named : (us : List Token) (x : Measured Stat) → start_at ts ≡ Named → name_stat d ts ≡ Ok (x, us) → over d spec.more_stats found ts ≡ over d spec.more_stats (with_one found x) us
   unfolding spec.more_stats
-  stats_one us x a b e = many_again _ (shrinks d) found (with_one found x) ts us (at_one us x a b e)
+  stats_named us x a e = many_again _ (shrinks d) found (with_one found x) ts us (at_name us x a e)
 
-  pub one_less : (us : List Token) (x : Measured Stat) → place_of (l.Sign s.Semicolon) ts ≡ None → place_of (l.Word w.Return) ts ≡ None → one_stat d ts ≡ Ok (Some x, us) → length us < length ts
-  one_less us x a b e = subst (λ r. AtTurn r ts) (at_one us x a b e) (shrinks d found ts)
+  pub named_less : (us : List Token) (x : Measured Stat) → start_at ts ≡ Named → name_stat d ts ≡ Ok (x, us) → length us < length ts
+  named_less us x a e = subst (λ r. AtTurn r ts) (at_name us x a e) (shrinks d found ts)
 
-  pub stats_stop : (stop : Stop) → place_of (l.Sign s.Semicolon) ts ≡ None → place_of (l.Word w.Return) ts ≡ None → one_stat d ts ≡ Err stop → over d spec.more_stats found ts ≡ Err stop
+  pub named_stop : (stop : Stop) → start_at ts ≡ Named → name_stat d ts ≡ Err stop → over d spec.more_stats found ts ≡ Err stop
   unfolding spec.more_stats
-  stats_stop stop a b e = many_stops _ (shrinks d) found ts _ _ stop (stat_by d found ts a b) e
+  named_stop stop a e = many_stops _ (shrinks d) found ts _ _ stop (turn_at d found ts Named a) e
 
-  pub stats_end : (us : List Token) → place_of (l.Sign s.Semicolon) ts ≡ None → place_of (l.Word w.Return) ts ≡ None → one_stat d ts ≡ Ok (None, us) → over d spec.more_stats found ts ≡ Ok (found, us)
+  pub begins_one : (k : Kind) → start_at ts ≡ One k → 1 ≤ length ts
+  unfolding start_at
+  begins_one k e = by_tokens ts e
+    where
+      by_tokens : (ts : List Token) → start_at ts ≡ One k → 1 ≤ length ts
+      by_tokens [] e = cc
+      by_tokens (x ∷ ts) e = omega arith
+
+  pub stats_one : (k : Kind) (us : List Token) (x : Measured Stat) → start_at ts ≡ One k → one_stat d k ts ≡ Ok (x, us) → over d spec.more_stats found ts ≡ over d spec.more_stats (with_one found x) us
   unfolding spec.more_stats
-  stats_end us a b e = many_done _ (shrinks d) found ts us found (stat_by d found ts a b ∙ ap (λ r. and_then r (ByOne d found)) e)
+  stats_one k us x a e = many_again _ (shrinks d) found (with_one found x) ts us (at_one k us x a e)
 
-pub ruleset stats_rules = (stats_skip, skip_less, stats_return, stats_return_stops, stats_one, one_less, stats_stop, stats_end)
+  pub one_less : (k : Kind) (us : List Token) (x : Measured Stat) → start_at ts ≡ One k → one_stat d k ts ≡ Ok (x, us) → length us < length ts
+  one_less k us x a e = subst (λ r. AtTurn r ts) (at_one k us x a e) (shrinks d found ts)
+
+  pub stats_stop : (k : Kind) (stop : Stop) → start_at ts ≡ One k → one_stat d k ts ≡ Err stop → over d spec.more_stats found ts ≡ Err stop
+  unfolding spec.more_stats
+  stats_stop k stop a e = many_stops _ (shrinks d) found ts _ _ stop (turn_at d found ts (One k) a) e
+
+  pub stats_end : start_at ts ≡ End → over d spec.more_stats found ts ≡ Ok (found, ts)
+  unfolding spec.more_stats
+  stats_end h = many_done _ (shrinks d) found ts ts found (turn_at d found ts End h)
+
+pub ruleset stats_rules = (stats_skip, skip_less, stats_return, stats_return_stops, stats_named, named_less, named_stop, begins_one, stats_one, one_less, stats_stop, stats_end)

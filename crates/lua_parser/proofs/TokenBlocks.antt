@@ -1,9 +1,9 @@
 -- What a cursor sees of its blocks.
-use Rattle.std.proofs.Common.{◌≡◌, refl, sym, ◌∙◌, ap, ℕ, ◌+◌, ◌<◌, ◌≤◌, List, [], ◌∷◌, ◌++◌, length, drop, slice_index_or, slice_set, arith}
+use Rattle.std.proofs.Common.{◌≡◌, sym, ◌∙◌, ap, Some, ℕ, ◌+◌, ◌<◌, ◌≤◌, List, [], ◌∷◌, ◌++◌, length, drop, slice_index_or, slice_set, arith}
 use Rattle.std.proofs.lemmas.List.{drop_more, drop-set}
 use Rattle.std.proofs.Math.ListN.{drop_of_length-le}
 use Rattle.lua_tokens.specs.declared.token.Token.{Token}
-use Rattle.lua_parser.specs.Looks.{rest, what_of}
+use Rattle.lua_parser.specs.Looks.{rest, what_of, first_place}
 use Rattle.lua_parser.proofs.Standing.{what_nil, what_next}
 
 -- no token is left
@@ -43,3 +43,9 @@ pub ruleset peek_rules = (none_left, next_here)
 pub ruleset take_rules = (rest_none, rest_here, rest_last)
 
 pub ruleset what_rules = (none_left, rest_none, rest_set, what_nil, what_here)
+
+pub place_here : (ts us : List Token) (x : Token) → ts ≡ x ∷ us → first_place ts ≡ Some x.place
+unfolding first_place
+place_here ts us x e = ap first_place e
+
+pub ruleset place_rules = (place_here)

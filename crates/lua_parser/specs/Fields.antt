@@ -24,21 +24,28 @@ keyed x e = measured (f.Keyed x.what e.what) (max x.depth e.depth)
 
 -- after the name that begins a field
 unfoldable pub name_field : Parts → Bytes → Place → Parser (Measured Field)
-name_field P n p = on (is_sign s.Equal) true (λ _ _. P.expr 0 >>= λ e. pure (named n e)) (P.rest (name_leaf n p) >>= λ e. pure (item e))
+name_field P n p =
+    on (is_sign s.Equal) true (λ _ _. P.expr 0 >>= λ e. pure (named n e))
+    (P.rest (name_leaf n p) >>= λ e. pure (item e))
 
 -- after the bracket that begins a field
 unfoldable pub key_field : Parts → Parser (Measured Field)
-key_field P = P.expr 0 >>= λ x. expect (l.Sign s.CloseBracket) >>= λ _. expect (l.Sign s.Equal) >>= λ _. P.expr 0 >>= λ e. pure (keyed x e)
+key_field P =
+    P.expr 0 >>= λ x. expect (l.Sign s.CloseBracket) >>= λ _. expect (l.Sign s.Equal) >>= λ _.
+    P.expr 0 >>= λ e. pure (keyed x e)
 
 unfoldable pub one_field : Parts → Parser (Measured Field)
 one_field P =
     on a_name (nat_le 1 P.depth) (name_field P)
-    (on (is_sign s.OpenBracket) (nat_le 1 P.depth) (λ _ _. key_field P) (P.expr 0 >>= λ e. pure (item e)))
+    (on (is_sign s.OpenBracket) (nat_le 1 P.depth) (λ _ _. key_field P)
+    (P.expr 0 >>= λ e. pure (item e)))
 
 -- after a field, whether another one may follow
 unfoldable pub separator : Parser Bool
 separator =
-    on (is_sign s.Comma) true (λ _ _. pure true) (on (is_sign s.Semicolon) true (λ _ _. pure true) (on (is_sign s.CloseBrace) true (λ _ _. pure false) refuse))
+    on (is_sign s.Comma) true (λ _ _. pure true)
+    (on (is_sign s.Semicolon) true (λ _ _. pure true)
+    (on (is_sign s.CloseBrace) true (λ _ _. pure false) refuse))
 
 -- further fields, of parts of a depth, up to the brace that closes the table
 unfoldable pub more_fields : ℕ → Measured (List Field) → Parser (Measured (List Field))

@@ -19,19 +19,27 @@ unfoldable pub loop_block : Parts → Parser (Measured (List Stat))
 loop_block P = expect (l.Word w.Do) >>= λ _. P.block >>= λ b. expect (l.Word w.End) >>= λ _. pure b
 
 -- a numerical one of these parts
-unfoldable pub numbers_stat : Bytes → Place → Measured Expr → Measured Expr → Measured (Option Expr) → Measured (List Stat) → Measured Stat
-numbers_stat n p from to by b = measured (st.ForNum n p from.what to.what by.what (block_of b.what)) (max (max from.depth to.depth) (max by.depth b.depth))
+unfoldable pub numbers_stat : Bytes → Place → Measured Expr → Measured Expr → Measured (Option Expr)
+    → Measured (List Stat) → Measured Stat
+numbers_stat n p from to by b =
+    measured (st.ForNum n p from.what to.what by.what (block_of b.what))
+    (max (max from.depth to.depth) (max by.depth b.depth))
 
 -- of a numerical one, from its word `do` on
-unfoldable pub numbers_block : Parts → Bytes → Place → Measured Expr → Measured Expr → Measured (Option Expr) → Parser (Measured Stat)
-numbers_block P n p from to by = expect (l.Word w.Do) >>= λ _. P.block >>= λ b. expect (l.Word w.End) >>= λ _. pure (numbers_stat n p from to by b)
+unfoldable pub numbers_block : Parts → Bytes → Place → Measured Expr → Measured Expr
+    → Measured (Option Expr) → Parser (Measured Stat)
+numbers_block P n p from to by =
+    expect (l.Word w.Do) >>= λ _. P.block >>= λ b. expect (l.Word w.End) >>= λ _.
+    pure (numbers_stat n p from to by b)
 
 -- of a numerical one, from its limit on
 unfoldable pub numbers_from : ℕ → Bytes → Place → Measured Expr → Parser (Measured Stat)
-numbers_from d n p from = (parts d).expr 0 >>= λ to. over d for_step >>= λ by. numbers_block (parts d) n p from to by
+numbers_from d n p from =
+    (parts d).expr 0 >>= λ to. over d for_step >>= λ by. numbers_block (parts d) n p from to by
 
 -- of a generic one, from its word `do` on
-unfoldable pub each_block : Parts → List (Bytes × Place) → Measured (List Expr) → Parser (Measured Stat)
+unfoldable pub each_block : Parts → List (Bytes × Place) → Measured (List Expr)
+    → Parser (Measured Stat)
 each_block P ns es =
     expect (l.Word w.Do) >>= λ _. P.block >>= λ b. expect (l.Word w.End) >>= λ _.
     pure (measured (st.ForIn ns es.what (block_of b.what)) (max es.depth b.depth))

@@ -1,4 +1,5 @@
 pub mod ForBlocks
+pub mod Starts
 pub mod OneStat
 pub mod Reads
 pub mod Looks
@@ -6,4 +7,5 @@ pub mod Nests
 pub mod Operators
 pub mod Steps
 pub mod Answers
+pub mod Faults
 pub mod Fields

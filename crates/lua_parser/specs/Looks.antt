@@ -31,6 +31,11 @@ unfoldable pub rest : List Token → List Token
 rest [] = []
 rest (x ∷ ts) = ts
 
+-- the place of the next token
+unfoldable pub first_place : List Token → Option Place
+first_place [] = None
+first_place (x ∷ ts) = Some x.place
+
 -- the place of the next token, if it is this one
 unfoldable pub place_of : Lexeme → List Token → Option Place
 place_of y [] = None
@@ -116,7 +121,8 @@ after None ts = ts
 after (Some b) ts = rest ts
 
 -- What is found is taken, if there is room for it.
-abbrev pub Takes : {B : Type 0} → Option B → Bool → Result (Option B) Stop → List Token → List Token → Type 0
+abbrev pub Takes : {B : Type 0} → Option B → Bool → Result (Option B) Stop → List Token → List Token
+    → Type 0
 Takes found room (Ok None) old new = (found ≡ None) × (new ≡ old)
 Takes found room (Ok (Some b)) old new = (found ≡ Some b) × (room ≡ true) × (new ≡ rest old)
 Takes found room (Err e.Deep) old new = (found ≡ None → ⊥) × (room ≡ false) × (new ≡ old)

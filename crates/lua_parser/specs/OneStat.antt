@@ -1,41 +1,48 @@
--- A statement that is more than a semicolon and no `return`.
-use Rattle.std.specs.Prelude.{ℕ, ◌-◌, nat_le, true, Option, Some, None, Ok, Err}
-use Rattle.lua_tokens.specs.declared.sign.Sign.TheVariants as s
-use Rattle.lua_tokens.specs.declared.word.Word.TheVariants as w
+-- A statement by the token that begins it.
+use Rattle.std.specs.Prelude.{ℕ, nat_le, Bool, if◌then◌else◌, [], ◌∷◌, Err}
+use Rattle.lua_tokens.specs.declared.place.Place.{Place}
 use Rattle.lua_tree.specs.declared.stat.Stat.{Stat}
 use Rattle.lua_tree.specs.declared.stat.Stat.TheVariants as st
 use Rattle.lua_grammar.specs.declared.measured.Measured.{Measured}
-use Rattle.lua_grammar.specs.Next.{is_sign, is_word, a_name}
-use Rattle.lua_grammar.specs.Input.{Outcome, Parser, ◌>>=◌, pure, on}
+use Rattle.lua_grammar.specs.Written.{Bytes}
+use Rattle.lua_grammar.specs.Next.{a_name}
+use Rattle.lua_grammar.specs.Input.{Parser, bad, deep, ◌>>=◌, pure, refuse, on}
 use Rattle.lua_grammar.specs.Expressions.{measured, name_leaf}
-use Rattle.lua_grammar.specs.Statements.{parts, as_variable, after_do, after_while, after_repeat, after_if, after_for, after_local, after_function, begun, after_open}
+use Rattle.lua_grammar.specs.Statements as spec
+use Rattle.lua_parser.specs.Steps.{over}
+use Rattle.lua_parser.specs.Starts.{room_of}
+use Rattle.lua_parser.specs.declared.start.Kind.{Kind}
+use Rattle.lua_parser.specs.declared.start.Kind.TheVariants as kind
 
-unfoldable pub some_stat : Outcome (Measured Stat) → Outcome (Option (Measured Stat))
-some_stat (Ok x) = Ok (Some x.0, x.1)
-some_stat (Err stop) = Err stop
+-- the next token is a name, and there is room for it
+unfoldable pub needs_name : Bool → Parser (Bytes × Place)
+needs_name room = on a_name room (λ n p. pure (n, p)) refuse
 
--- one that has no block, or is a `local`, if it begins here
-unfoldable pub simple_stat : ℕ → Parser (Option (Measured Stat))
-simple_stat d =
-    on (is_word w.Break) true (λ _ p. pure (Some (measured (st.Break p) 0)))
-    (on a_name (nat_le 1 d) (λ n p ts. some_stat (begun (parts d) (parts (d - 1)) (parts (d - 2)) (as_variable (name_leaf n p)) ts))
-    (on (is_sign s.OpenParen) (nat_le 3 d) (λ _ p ts. some_stat (after_open (parts d) (parts (d - 1)) (parts (d - 2)) p ts))
-    (on (is_word w.Local) true (λ _ _ ts. some_stat (after_local (parts d) (parts (d - 1)) (parts (d - 2)) ts)) (pure None))))
+-- the break, whose word is here
+abbrev pub break_at : Place → Measured Stat
+break_at p = measured (st.Break p) 0
 
--- another, if it begins here
-unfoldable pub nested_stat : ℕ → Parser (Option (Measured Stat))
-nested_stat d =
-    on (is_word w.If) (nat_le 1 d) (λ _ _ ts. some_stat (after_if (parts d) (parts (d - 1)) (parts (d - 2)) ts))
-    (on (is_word w.For) (nat_le 1 d) (λ _ _ ts. some_stat (after_for (parts d) (parts (d - 1)) (parts (d - 2)) ts))
-    (on (is_word w.Function) (nat_le 2 d) (λ _ p ts. some_stat (after_function (parts d) (parts (d - 1)) (parts (d - 2)) p ts))
-    (on (is_word w.While) (nat_le 1 d) (λ _ _ ts. some_stat (after_while (parts d) (parts (d - 1)) (parts (d - 2)) ts))
-    (on (is_word w.Repeat) (nat_le 1 d) (λ _ _ ts. some_stat (after_repeat (parts d) (parts (d - 1)) (parts (d - 2)) ts))
-    (on (is_word w.Do) (nat_le 1 d) (λ _ _ ts. some_stat (after_do (parts d) (parts (d - 1)) (parts (d - 2)) ts)) (pure None))))))
+-- one that a name begins
+unfoldable pub name_stat : ℕ → Parser (Measured Stat)
+name_stat d =
+    needs_name (nat_le 1 d) >>= λ x. over d spec.begun (spec.as_variable (name_leaf x.0 x.1))
 
-abbrev pub or_nested : ℕ → Option (Measured Stat) → Parser (Option (Measured Stat))
-or_nested d None = nested_stat d
-or_nested d (Some x) = pure (Some x)
+-- one of this kind after the token here that begins it
+unfoldable pub after_kind : ℕ → Kind → Place → Parser (Measured Stat)
+after_kind d kind.Break p = pure (break_at p)
+after_kind d kind.Goto p = spec.after_goto
+after_kind d kind.Label p = spec.after_colons
+after_kind d kind.Paren p = over d spec.after_open p
+after_kind d kind.Local p = over d spec.after_local
+after_kind d kind.If p = over d spec.after_if
+after_kind d kind.For p = over d spec.after_for
+after_kind d kind.Function p = over d spec.after_function p
+after_kind d kind.While p = over d spec.after_while
+after_kind d kind.Repeat p = over d spec.after_repeat
+after_kind d kind.Do p = over d spec.after_do
 
--- any of them, if one begins here
-unfoldable pub one_stat : ℕ → Parser (Option (Measured Stat))
-one_stat d = simple_stat d >>= or_nested d
+-- one of this kind, which the next token begins, where there is room for it
+unfoldable pub one_stat : ℕ → Kind → Parser (Measured Stat)
+one_stat d k [] = Err (bad, [])
+one_stat d k (x ∷ ts) =
+    if nat_le (room_of k) d then after_kind d k x.place ts else Err (deep, x ∷ ts)

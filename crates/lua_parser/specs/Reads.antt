@@ -5,7 +5,8 @@ use Rattle.lua_grammar.specs.Input.{Outcome, Why, bad, deep, attribute}
 use Rattle.lua_parser.specs.declared.stop.Stop.{Stop}
 use Rattle.lua_parser.specs.declared.stop.Stop.TheVariants as e
 
--- It answers what the reader of tokens answers, unless memory runs out. At a refusal the cursor stands at the refused token.
+-- It answers what the reader of tokens answers, unless memory runs out. At a refusal the cursor
+-- stands at the refused token.
 abbrev pub Reads : {A : Type 0} → Outcome A → Result A Stop → List Token → Type 0
 Reads outcome (Ok x) new = outcome ≡ Ok (x, new)
 Reads outcome (Err e.Bad) new = outcome ≡ Err (bad, new)

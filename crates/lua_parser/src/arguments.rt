@@ -3,7 +3,7 @@
 ghost use Rattle.std.specs.Prelude.{◌≤◌, ◌<◌, IfOk, IfSome, IsTrue};
 ghost use Rattle.lua_grammar.specs.Expressions as spec;
 ghost use Rattle.lua_grammar.specs.Statements.{parts};
-ghost use Rattle.lua_parser.specs.Nests.{Nests};
+ghost use Rattle.lua_parser.specs.Nests.{ReadsParts};
 ghost use Rattle.lua_parser.specs.Reads.{Reads};
 ghost use Rattle.lua_parser.specs.Steps.{args_step};
 
@@ -25,8 +25,9 @@ where
     /// Arguments after the parenthesis at this place.
     #[tactic(auto, using(crate::proofs::ArgTurns::parens_rules))]
     pub fn in_parens(&self, tokens: &mut Tokens, place: Place) -> Result<Arguments, Stop>
-        requires { Nests self.now.depth (E.pre self.now.parts) (E.post self.now.parts) (B.pre self.now.blocks) (B.post self.now.blocks) }
-        ensures arguments { Reads (spec.in_parens (parts self.now.depth) place tokens.old) result tokens.new }
+        requires { ReadsParts self.now E.pre E.post B.pre B.post }
+        ensures arguments { Reads (spec.in_parens (parts self.now.depth) place tokens.old)
+            result tokens.new }
         ensures low { IfOk result (λ arguments. arguments.exprs.depth ≤ self.now.depth) }
     {
         if let Some(_) = tokens.sign(Sign::CloseParen) {
@@ -43,10 +44,12 @@ where
     /// Arguments, if some come next. They are refused as too deep where there is no room.
     #[tactic(auto, using(crate::proofs::ArgTurns::args_rules, crate::proofs::Low::table_low))]
     pub fn arguments(&self, tokens: &mut Tokens, room: bool) -> Result<Option<Arguments>, Stop>
-        requires { Nests self.now.depth (E.pre self.now.parts) (E.post self.now.parts) (B.pre self.now.blocks) (B.post self.now.blocks) }
-        ensures arguments { Reads (args_step (parts self.now.depth) room tokens.old) result tokens.new }
+        requires { ReadsParts self.now E.pre E.post B.pre B.post }
+        ensures arguments { Reads (args_step (parts self.now.depth) room tokens.old)
+            result tokens.new }
         ensures here { IfOk result (λ found. IfSome found (λ _. IsTrue room)) }
-        ensures low { IfOk result (λ found. IfSome found (λ arguments. arguments.exprs.depth < 1000)) }
+        ensures low { IfOk result
+            (λ found. IfSome found (λ arguments. arguments.exprs.depth < 1000)) }
     {
         if let Some(place) = tokens.sign_if(Sign::OpenParen, room)? {
             let arguments = self.in_parens(tokens, place)?;

@@ -1,7 +1,8 @@
 //! Assignments and calls.
 
 ghost use Rattle.lua_grammar.specs.Statements as spec;
-ghost use Rattle.lua_parser.specs.Nests.{Nests};
+ghost use Rattle.lua_parser.specs.Nests.{ReadsParts};
+ghost use Rattle.lua_parser.specs.OneStat.{name_stat};
 ghost use Rattle.lua_parser.specs.Reads.{Reads};
 ghost use Rattle.lua_parser.specs.Steps.{over};
 
@@ -24,7 +25,7 @@ where
     /// A target that goes on with this.
     #[tactic(auto, using(crate::proofs::PrefixTurns::target_from_rules))]
     pub fn target_from(&self, tokens: &mut Tokens, first: Prefix) -> Result<Measured<Expr>, Stop>
-        requires { Nests self.now.depth (E.pre self.now.parts) (E.post self.now.parts) (B.pre self.now.blocks) (B.post self.now.blocks) }
+        requires { ReadsParts self.now E.pre E.post B.pre B.post }
         ensures { Reads (over self.now.depth spec.target_from first tokens.old) result tokens.new }
     {
         let Prefix { mut expr, mut ends } = first;
@@ -51,7 +52,7 @@ where
     /// A target after a comma.
     #[tactic(auto, using(crate::proofs::TargetSteps::target_rules))]
     pub fn target(&self, tokens: &mut Tokens) -> Result<Measured<Expr>, Stop>
-        requires { Nests self.now.depth (E.pre self.now.parts) (E.post self.now.parts) (B.pre self.now.blocks) (B.post self.now.blocks) }
+        requires { ReadsParts self.now E.pre E.post B.pre B.post }
         ensures { Reads (over self.now.depth spec.target tokens.old) result tokens.new }
     {
         if let Some((name, place)) = tokens.name_if(true)? {
@@ -83,7 +84,7 @@ where
         tokens: &mut Tokens,
         found: Measured<Row<Expr>>,
     ) -> Result<Measured<Stat>, Stop>
-        requires { Nests self.now.depth (E.pre self.now.parts) (E.post self.now.parts) (B.pre self.now.blocks) (B.post self.now.blocks) }
+        requires { ReadsParts self.now E.pre E.post B.pre B.post }
         ensures { Reads (over self.now.depth spec.assigned found tokens.old) result tokens.new }
     {
         let mut targets = found;
@@ -93,13 +94,13 @@ where
         tokens.expect_sign(Sign::Equal)?;
         let values = self.list(tokens)?;
         let depth = targets.depth.max(values.depth);
-        Ok(Measured::new(Stat::Assign(targets.what, values.what), depth))
+        Ok(Measured::new(Stat::Assign(targets.into_what(), values.into_what()), depth))
     }
 
     /// The indexes and calls that go on with what begins a statement.
     #[tactic(auto, using(crate::proofs::PrefixTurns::prefix_rules))]
     pub fn prefixes(&self, tokens: &mut Tokens, first: Prefix) -> Result<Prefix, Stop>
-        requires { Nests self.now.depth (E.pre self.now.parts) (E.post self.now.parts) (B.pre self.now.blocks) (B.post self.now.blocks) }
+        requires { ReadsParts self.now E.pre E.post B.pre B.post }
         ensures { Reads (over self.now.depth spec.prefixes first tokens.old) result tokens.new }
     {
         let Prefix { mut expr, mut ends } = first;
@@ -124,7 +125,7 @@ where
     /// A statement that begins with this.
     #[tactic(auto, using(crate::proofs::PrefixTurns::begun_rules))]
     pub fn begun(&self, tokens: &mut Tokens, first: Prefix) -> Result<Measured<Stat>, Stop>
-        requires { Nests self.now.depth (E.pre self.now.parts) (E.post self.now.parts) (B.pre self.now.blocks) (B.post self.now.blocks) }
+        requires { ReadsParts self.now E.pre E.post B.pre B.post }
         ensures { Reads (over self.now.depth spec.begun first tokens.old) result tokens.new }
     {
         let begin = self.prefixes(tokens, first)?;
@@ -134,17 +135,33 @@ where
                 self.assigned(tokens, targets)
             }
             Ends::Call => {
-                let Measured { what, depth } = begin.expr;
+                let (what, depth) = begin.expr.into_parts();
                 Ok(Measured::new(Stat::Call(what), depth))
             }
             Ends::Group => Err(Stop::Bad),
         }
     }
 
+    /// A statement that a name begins.
+    #[tactic(auto, using(crate::proofs::OneStats::name_rules))]
+    pub fn name_stat(&self, tokens: &mut Tokens) -> Result<Measured<Stat>, Stop>
+        requires { ReadsParts self.now E.pre E.post B.pre B.post }
+        ensures { Reads (name_stat self.now.depth tokens.old) result tokens.new }
+    {
+        let (name, place) = tokens.need_name(1 <= self.depth)?;
+        self.begun(
+            tokens,
+            Prefix {
+                expr: name_leaf(name, place),
+                ends: Ends::Variable,
+            },
+        )
+    }
+
     /// A statement after the parenthesis at this place.
     #[tactic(auto, unfolding(lua_grammar::specs::Statements::after_open))]
     pub fn after_open(&self, tokens: &mut Tokens, place: Place) -> Result<Measured<Stat>, Stop>
-        requires { Nests self.now.depth (E.pre self.now.parts) (E.post self.now.parts) (B.pre self.now.blocks) (B.post self.now.blocks) }
+        requires { ReadsParts self.now E.pre E.post B.pre B.post }
         ensures { Reads (over self.now.depth spec.after_open place tokens.old) result tokens.new }
     {
         let expr = self.below(2).group(tokens, place)?;

@@ -3,7 +3,7 @@
 ghost use Rattle.std.specs.Prelude.{◌≤◌, IfOk};
 ghost use Rattle.lua_grammar.specs.Expressions as spec;
 ghost use Rattle.lua_grammar.specs.Statements.{parts};
-ghost use Rattle.lua_parser.specs.Nests.{Nests};
+ghost use Rattle.lua_parser.specs.Nests.{ReadsParts};
 ghost use Rattle.lua_parser.specs.Reads.{Reads};
 ghost use Rattle.lua_parser.specs.Steps.{more_params, dots_end};
 
@@ -61,14 +61,16 @@ where
         Err(Stop::Bad)
     }
 
-    /// Parameters after the parenthesis, up to the one that closes them, after these, and whether `...` is the last of them.
+    /// Parameters after the parenthesis, up to the one that closes them, after these, and whether
+    /// `...` is the last of them.
     #[tactic(auto, using(crate::proofs::ParamTurns::first_rules))]
     pub fn parameters(
         &self,
         tokens: &mut Tokens,
         first: Row<(Bytes, Place)>,
     ) -> Result<(Row<(Bytes, Place)>, bool), Stop>
-        ensures { Reads (spec.parameters (parts self.now.depth) first tokens.old) result tokens.new }
+        ensures { Reads (spec.parameters (parts self.now.depth) first tokens.old)
+            result tokens.new }
     {
         if let Some((name, place)) = tokens.name_if(true)? {
             let mut found = first.into_vec();
@@ -84,7 +86,8 @@ where
         Err(Stop::Bad)
     }
 
-    /// What follows the word `function` at this place, and a name. These parameters come before its own.
+    /// What follows the word `function` at this place, and a name. These parameters come before its
+    /// own.
     #[inline(never)]
     #[tactic(auto, using(crate::proofs::Low::block_low), unfolding(lua_grammar::specs::Expressions::function_body))]
     pub fn function_body(
@@ -93,13 +96,14 @@ where
         at: Place,
         first: Row<(Bytes, Place)>,
     ) -> Result<Measured<Body>, Stop>
-        requires { Nests self.now.depth (E.pre self.now.parts) (E.post self.now.parts) (B.pre self.now.blocks) (B.post self.now.blocks) }
-        ensures body { Reads (spec.function_body (parts self.now.depth) at first tokens.old) result tokens.new }
+        requires { ReadsParts self.now E.pre E.post B.pre B.post }
+        ensures body { Reads (spec.function_body (parts self.now.depth) at first tokens.old)
+            result tokens.new }
         ensures low { IfOk result (λ body. body.depth ≤ self.now.depth) }
     {
         tokens.expect_sign(Sign::OpenParen)?;
         let (params, vararg) = self.parameters(tokens, first)?;
-        let Measured { what, depth } = self.inner_block(tokens)?;
+        let (what, depth) = self.inner_block(tokens)?.into_parts();
         tokens.expect_word(Word::End)?;
         let body = Body {
             params,

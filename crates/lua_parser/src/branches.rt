@@ -1,7 +1,7 @@
 //! `if` statements.
 
 ghost use Rattle.lua_grammar.specs.Statements as spec;
-ghost use Rattle.lua_parser.specs.Nests.{Nests};
+ghost use Rattle.lua_parser.specs.Nests.{ReadsParts};
 ghost use Rattle.lua_parser.specs.Reads.{Reads};
 ghost use Rattle.lua_parser.specs.Steps.{over};
 
@@ -23,7 +23,7 @@ where
     /// A condition and its block.
     #[tactic(auto, unfolding(lua_grammar::specs::Statements::condition))]
     pub fn condition(&self, tokens: &mut Tokens) -> Result<Measured<Branch>, Stop>
-        requires { Nests self.now.depth (E.pre self.now.parts) (E.post self.now.parts) (B.pre self.now.blocks) (B.post self.now.blocks) }
+        requires { ReadsParts self.now E.pre E.post B.pre B.post }
         ensures { Reads (over self.now.depth spec.condition tokens.old) result tokens.new }
     {
         let condition = self.inner_expr(tokens, 0)?;
@@ -32,8 +32,10 @@ where
         let depth = condition.depth.max(block.depth);
         Ok(Measured::new(
             Branch {
-                condition: condition.what,
-                block: Block { stats: block.what },
+                condition: condition.into_what(),
+                block: Block {
+                    stats: block.into_what(),
+                },
             },
             depth,
         ))
@@ -46,14 +48,16 @@ where
         tokens: &mut Tokens,
         found: Measured<Row<Branch>>,
     ) -> Result<Measured<Stat>, Stop>
-        requires { Nests self.now.depth (E.pre self.now.parts) (E.post self.now.parts) (B.pre self.now.blocks) (B.post self.now.blocks) }
+        requires { ReadsParts self.now E.pre E.post B.pre B.post }
         ensures { Reads (over self.now.depth spec.after_else found tokens.old) result tokens.new }
     {
         let block = self.inner_block(tokens)?;
         tokens.expect_word(Word::End)?;
         let depth = found.depth.max(block.depth);
-        let last = Block { stats: block.what };
-        Ok(Measured::new(Stat::If(found.what, Some(last)), depth))
+        let last = Block {
+            stats: block.into_what(),
+        };
+        Ok(Measured::new(Stat::If(found.into_what(), Some(last)), depth))
     }
 
     /// What goes on with an `if` statement after these branches.
@@ -63,7 +67,7 @@ where
         tokens: &mut Tokens,
         found: Measured<Row<Branch>>,
     ) -> Result<Measured<Stat>, Stop>
-        requires { Nests self.now.depth (E.pre self.now.parts) (E.post self.now.parts) (B.pre self.now.blocks) (B.post self.now.blocks) }
+        requires { ReadsParts self.now E.pre E.post B.pre B.post }
         ensures { Reads (over self.now.depth spec.more_arms found tokens.old) result tokens.new }
     {
         let mut arms = found;
@@ -74,13 +78,14 @@ where
             return self.after_else(tokens, arms);
         }
         tokens.expect_word(Word::End)?;
-        Ok(Measured::new(Stat::If(arms.what, None), arms.depth))
+        let (arms, depth) = arms.into_parts();
+        Ok(Measured::new(Stat::If(arms, None), depth))
     }
 
     /// An `if` statement after its word.
     #[tactic(auto, unfolding(lua_grammar::specs::Statements::after_if))]
     pub fn after_if(&self, tokens: &mut Tokens) -> Result<Measured<Stat>, Stop>
-        requires { Nests self.now.depth (E.pre self.now.parts) (E.post self.now.parts) (B.pre self.now.blocks) (B.post self.now.blocks) }
+        requires { ReadsParts self.now E.pre E.post B.pre B.post }
         ensures { Reads (over self.now.depth spec.after_if tokens.old) result tokens.new }
     {
         let first = self.condition(tokens)?;

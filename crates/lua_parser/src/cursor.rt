@@ -5,18 +5,21 @@ ghost use Rattle.std.specs.Prelude.{◌≡◌, ◌↔◌, IsTrue, true, [], ◌�
 ghost use Rattle.lua_tokens.specs.declared.token.Lexeme.TheVariants as l;
 ghost use Rattle.lua_grammar.specs.Next.{an_atom, a_unary};
 ghost use Rattle.lua_grammar.specs.Input.{expect, attribute_name};
-ghost use Rattle.lua_parser.specs.Looks.{begun, what_of, rest, place_of, name_at, text_at, kind_at, kind_in, op_at, unary_at, begins_at, ends_at, suffix_at, after, Takes, Needs};
+ghost use Rattle.lua_parser.specs.Looks.{first_place, begun, what_of, rest, place_of, name_at, text_at, kind_at, kind_in, op_at, unary_at, begins_at, ends_at, suffix_at, after, Takes, Needs};
 ghost use Rattle.lua_parser.specs.Operators.{found_op};
+ghost use Rattle.lua_parser.specs.OneStat.{needs_name};
 ghost use Rattle.lua_parser.specs.Reads.{Reads};
+ghost use Rattle.lua_parser.specs.Starts.{start_at};
 
 use crate::operator::{Operator, binary_operator};
+use crate::start::{Start, start_of};
 use crate::stop::Stop;
 use lanes_arena::Bytes;
 use lua_tokens::{Lexeme, Place, Sign, Token, TokenList, Word};
 use lua_tree::{ExprKind, Unary};
 use std::marker::Model;
 
-/// The tokens that are left. A block of them is let go as soon as they are taken.
+/// The tokens that are left. A block of them is dropped as soon as they are taken.
 #[derive(Drop)]
 pub struct Tokens {
     block: Vec<Token>,
@@ -116,6 +119,19 @@ impl Tokens {
                 self.at = 0;
             }
         }
+    }
+
+    /// Goes past the next token and answers its place.
+    #[inline]
+    #[tactic(auto, using(crate::proofs::TokenBlocks::place_rules))]
+    pub fn take_place(&mut self) -> Place
+        requires { 1 ≤ length self.old }
+        ensures place { first_place self.old ≡ Some result }
+        ensures left { self.new ≡ rest self.old }
+    {
+        let place = self.first().place;
+        self.take();
+        place
     }
 
     /// Goes past the next token and answers what it was: the end of a script if no token is left.
@@ -237,6 +253,29 @@ impl Tokens {
         match self.word(word) {
             Some(place) => Ok(place),
             None => Err(Stop::Bad),
+        }
+    }
+
+    /// Takes a name, which has to come next, where there is room for it.
+    #[tactic(auto, using(crate::proofs::OneStats::needs_name_rules))]
+    pub fn need_name(&mut self, room: bool) -> Result<(Bytes, Place), Stop>
+        ensures { Reads (needs_name room self.old) result self.new }
+    {
+        match self.name_if(room)? {
+            Some((name, place)) => Ok((name, place)),
+            None => Err(Stop::Bad),
+        }
+    }
+
+    /// What goes on with a block here.
+    #[inline]
+    #[tactic(auto, using(crate::proofs::Standing::start_rules))]
+    pub fn start(&self) -> Start
+        ensures { result ≡ start_at self.now }
+    {
+        match self.peek() {
+            Some(first) => start_of(&first.what),
+            None => Start::End,
         }
     }
 

@@ -1,7 +1,7 @@
 //! Declarations.
 
 ghost use Rattle.lua_grammar.specs.Statements as spec;
-ghost use Rattle.lua_parser.specs.Nests.{Nests};
+ghost use Rattle.lua_parser.specs.Nests.{ReadsParts};
 ghost use Rattle.lua_parser.specs.Reads.{Reads};
 ghost use Rattle.lua_parser.specs.Steps.{over};
 
@@ -25,7 +25,7 @@ where
     /// Whether a declared name has an attribute, which is `const`.
     #[tactic(auto, using(crate::proofs::LocalSteps::attrib_rules))]
     pub fn attrib(&self, tokens: &mut Tokens) -> Result<bool, Stop>
-        requires { Nests self.now.depth (E.pre self.now.parts) (E.post self.now.parts) (B.pre self.now.blocks) (B.post self.now.blocks) }
+        requires { ReadsParts self.now E.pre E.post B.pre B.post }
         ensures { Reads (over self.now.depth spec.attrib tokens.old) result tokens.new }
     {
         let Some(_) = tokens.sign(Sign::Less) else {
@@ -43,8 +43,9 @@ where
         tokens: &mut Tokens,
         found: Row<(Bytes, bool, Place)>,
     ) -> Result<Row<(Bytes, bool, Place)>, Stop>
-        requires { Nests self.now.depth (E.pre self.now.parts) (E.post self.now.parts) (B.pre self.now.blocks) (B.post self.now.blocks) }
-        ensures { Reads (over self.now.depth spec.more_declared found tokens.old) result tokens.new }
+        requires { ReadsParts self.now E.pre E.post B.pre B.post }
+        ensures { Reads (over self.now.depth spec.more_declared found tokens.old)
+            result tokens.new }
     {
         let mut names = found.into_vec();
         'names: while let Some(_) = tokens.sign(Sign::Comma) {
@@ -58,7 +59,7 @@ where
     /// The values of a declaration.
     #[tactic(auto, using(crate::proofs::LocalSteps::values_rules))]
     pub fn values(&self, tokens: &mut Tokens) -> Result<Measured<Row<Expr>>, Stop>
-        requires { Nests self.now.depth (E.pre self.now.parts) (E.post self.now.parts) (B.pre self.now.blocks) (B.post self.now.blocks) }
+        requires { ReadsParts self.now E.pre E.post B.pre B.post }
         ensures { Reads (over self.now.depth spec.values tokens.old) result tokens.new }
     {
         let Some(_) = tokens.sign_if(Sign::Equal, 1 <= self.depth)? else {
@@ -75,31 +76,34 @@ where
         name: Bytes,
         place: Place,
     ) -> Result<Measured<Stat>, Stop>
-        requires { Nests self.now.depth (E.pre self.now.parts) (E.post self.now.parts) (B.pre self.now.blocks) (B.post self.now.blocks) }
-        ensures { Reads (over self.now.depth spec.local_names name place tokens.old) result tokens.new }
+        requires { ReadsParts self.now E.pre E.post B.pre B.post }
+        ensures { Reads (over self.now.depth spec.local_names name place tokens.old)
+            result tokens.new }
     {
         let constant = self.attrib(tokens)?;
         let first = single(self.alloc, (name, constant, place))?;
         let names = self.more_declared(tokens, first)?;
         let values = self.values(tokens)?;
-        Ok(Measured::new(Stat::Local(names, values.what), values.depth))
+        let (values, depth) = values.into_parts();
+        Ok(Measured::new(Stat::Local(names, values), depth))
     }
 
     /// A `local function` statement whose word `function` is at this place, after that word.
     #[tactic(auto, using(crate::proofs::LocalSteps::local_function_rules))]
     pub fn local_function(&self, tokens: &mut Tokens, at: Place) -> Result<Measured<Stat>, Stop>
-        requires { Nests self.now.depth (E.pre self.now.parts) (E.post self.now.parts) (B.pre self.now.blocks) (B.post self.now.blocks) }
+        requires { ReadsParts self.now E.pre E.post B.pre B.post }
         ensures { Reads (over self.now.depth spec.local_function at tokens.old) result tokens.new }
     {
         let (name, place) = tokens.expect_name()?;
         let body = self.function_body(tokens, at, Row::of(Vec::new(self.alloc)))?;
-        Ok(Measured::new(Stat::LocalFunction(name, place, body.what), body.depth))
+        let depth = body.depth;
+        Ok(Measured::new(Stat::LocalFunction(name, place, body.into_what()), depth))
     }
 
     /// A statement after the word `local`.
     #[tactic(auto, using(crate::proofs::LocalSteps::local_rules))]
     pub fn after_local(&self, tokens: &mut Tokens) -> Result<Measured<Stat>, Stop>
-        requires { Nests self.now.depth (E.pre self.now.parts) (E.post self.now.parts) (B.pre self.now.blocks) (B.post self.now.blocks) }
+        requires { ReadsParts self.now E.pre E.post B.pre B.post }
         ensures { Reads (over self.now.depth spec.after_local tokens.old) result tokens.new }
     {
         if let Some(at) = tokens.word_if(Word::Function, 1 <= self.depth)? {
@@ -112,7 +116,7 @@ where
     /// The names that go on with the path of a function.
     #[tactic(auto, using(crate::proofs::PathTurns::path_rules))]
     pub fn path(&self, tokens: &mut Tokens, first: Measured<Expr>) -> Result<Measured<Expr>, Stop>
-        requires { Nests self.now.depth (E.pre self.now.parts) (E.post self.now.parts) (B.pre self.now.blocks) (B.post self.now.blocks) }
+        requires { ReadsParts self.now E.pre E.post B.pre B.post }
         ensures { Reads (over self.now.depth spec.path first tokens.old) result tokens.new }
     {
         let limit = self.depth.saturating_sub(1);
@@ -133,15 +137,16 @@ where
         target: Measured<Expr>,
         first: Row<(Bytes, Place)>,
     ) -> Result<Measured<Stat>, Stop>
-        requires { Nests self.now.depth (E.pre self.now.parts) (E.post self.now.parts) (B.pre self.now.blocks) (B.post self.now.blocks) }
-        ensures { Reads (over self.now.depth spec.defined at target first tokens.old) result tokens.new }
+        requires { ReadsParts self.now E.pre E.post B.pre B.post }
+        ensures { Reads (over self.now.depth spec.defined at target first tokens.old)
+            result tokens.new }
     {
         let body = self.below(1).function_body(tokens, at, first)?;
         let function = function_node(self.alloc, at, body)?;
         let depth = target.depth.max(function.depth);
         let targets = only(self.alloc, target)?;
         let values = only(self.alloc, function)?;
-        Ok(Measured::new(Stat::Assign(targets.what, values.what), depth))
+        Ok(Measured::new(Stat::Assign(targets.into_what(), values.into_what()), depth))
     }
 
     /// A `function` statement after the names that are joined by dots.
@@ -152,8 +157,9 @@ where
         at: Place,
         target: Measured<Expr>,
     ) -> Result<Measured<Stat>, Stop>
-        requires { Nests self.now.depth (E.pre self.now.parts) (E.post self.now.parts) (B.pre self.now.blocks) (B.post self.now.blocks) }
-        ensures { Reads (over self.now.depth spec.after_path at target tokens.old) result tokens.new }
+        requires { ReadsParts self.now E.pre E.post B.pre B.post }
+        ensures { Reads (over self.now.depth spec.after_path at target tokens.old)
+            result tokens.new }
     {
         let limit = self.depth.saturating_sub(1);
         let Some(colon) = tokens.sign_if(Sign::Colon, target.depth <= limit)? else {
@@ -168,7 +174,7 @@ where
     /// A `function` statement whose word is at this place, after that word.
     #[tactic(auto, using(crate::proofs::FunctionSteps::function_rules))]
     pub fn after_function(&self, tokens: &mut Tokens, at: Place) -> Result<Measured<Stat>, Stop>
-        requires { Nests self.now.depth (E.pre self.now.parts) (E.post self.now.parts) (B.pre self.now.blocks) (B.post self.now.blocks) }
+        requires { ReadsParts self.now E.pre E.post B.pre B.post }
         ensures { Reads (over self.now.depth spec.after_function at tokens.old) result tokens.new }
     {
         let (name, place) = tokens.expect_name()?;

@@ -2,7 +2,7 @@
 
 ghost use Rattle.lua_grammar.specs.Expressions as spec;
 ghost use Rattle.lua_grammar.specs.Statements.{parts};
-ghost use Rattle.lua_parser.specs.Nests.{Nests};
+ghost use Rattle.lua_parser.specs.Nests.{ReadsParts};
 ghost use Rattle.lua_parser.specs.Reads.{Reads};
 
 use crate::cursor::Tokens;
@@ -24,7 +24,7 @@ where
     #[inline(never)]
     #[tactic(auto, using(crate::proofs::Low::first_low), unfolding(lua_grammar::specs::Expressions::group))]
     pub fn group(&self, tokens: &mut Tokens, place: Place) -> Result<Measured<Expr>, Stop>
-        requires { Nests self.now.depth (E.pre self.now.parts) (E.post self.now.parts) (B.pre self.now.blocks) (B.post self.now.blocks) }
+        requires { ReadsParts self.now E.pre E.post B.pre B.post }
         ensures { Reads (spec.group (parts self.now.depth) place tokens.old) result tokens.new }
     {
         let inner = self.inner_expr(tokens, 0)?;

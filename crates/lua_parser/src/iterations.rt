@@ -4,7 +4,7 @@ ghost use Rattle.std.specs.Prelude.{◌≡◌};
 ghost use Rattle.lua_grammar.specs.Statements as spec;
 ghost use Rattle.lua_grammar.specs.Statements.{parts};
 ghost use Rattle.lua_parser.specs.ForBlocks.{loop_block, numbers_stat, numbers_block, numbers_from, each_block};
-ghost use Rattle.lua_parser.specs.Nests.{Nests};
+ghost use Rattle.lua_parser.specs.Nests.{ReadsParts};
 ghost use Rattle.lua_parser.specs.Reads.{Reads};
 ghost use Rattle.lua_parser.specs.Steps.{over};
 
@@ -33,8 +33,17 @@ fn numbers_stat(
 {
     let bounds = start.depth.max(limit.depth);
     let depth = bounds.max(step.depth.max(block.depth));
-    let repeated = Block { stats: block.what };
-    let what = Stat::ForNum(name, place, start.what, limit.what, step.what, repeated);
+    let repeated = Block {
+        stats: block.into_what(),
+    };
+    let what = Stat::ForNum(
+        name,
+        place,
+        start.into_what(),
+        limit.into_what(),
+        step.into_what(),
+        repeated,
+    );
     Measured::new(what, depth)
 }
 
@@ -46,7 +55,7 @@ where
     /// A `while` statement after its word.
     #[tactic(auto, unfolding(lua_grammar::specs::Statements::after_while))]
     pub fn after_while(&self, tokens: &mut Tokens) -> Result<Measured<Stat>, Stop>
-        requires { Nests self.now.depth (E.pre self.now.parts) (E.post self.now.parts) (B.pre self.now.blocks) (B.post self.now.blocks) }
+        requires { ReadsParts self.now E.pre E.post B.pre B.post }
         ensures { Reads (over self.now.depth spec.after_while tokens.old) result tokens.new }
     {
         let condition = self.inner_expr(tokens, 0)?;
@@ -54,28 +63,32 @@ where
         let block = self.inner_block(tokens)?;
         tokens.expect_word(Word::End)?;
         let depth = condition.depth.max(block.depth);
-        let repeated = Block { stats: block.what };
-        Ok(Measured::new(Stat::While(condition.what, repeated), depth))
+        let repeated = Block {
+            stats: block.into_what(),
+        };
+        Ok(Measured::new(Stat::While(condition.into_what(), repeated), depth))
     }
 
     /// A `repeat` statement after its word.
     #[tactic(auto, unfolding(lua_grammar::specs::Statements::after_repeat))]
     pub fn after_repeat(&self, tokens: &mut Tokens) -> Result<Measured<Stat>, Stop>
-        requires { Nests self.now.depth (E.pre self.now.parts) (E.post self.now.parts) (B.pre self.now.blocks) (B.post self.now.blocks) }
+        requires { ReadsParts self.now E.pre E.post B.pre B.post }
         ensures { Reads (over self.now.depth spec.after_repeat tokens.old) result tokens.new }
     {
         let block = self.inner_block(tokens)?;
         tokens.expect_word(Word::Until)?;
         let condition = self.inner_expr(tokens, 0)?;
         let depth = block.depth.max(condition.depth);
-        let repeated = Block { stats: block.what };
-        Ok(Measured::new(Stat::Repeat(repeated, condition.what), depth))
+        let repeated = Block {
+            stats: block.into_what(),
+        };
+        Ok(Measured::new(Stat::Repeat(repeated, condition.into_what()), depth))
     }
 
     /// The block of a `for`, from `do` to `end`.
     #[tactic(auto, unfolding(crate::specs::ForBlocks::loop_block))]
     fn loop_block(&self, tokens: &mut Tokens) -> Result<Measured<Row<Stat>>, Stop>
-        requires { Nests self.now.depth (E.pre self.now.parts) (E.post self.now.parts) (B.pre self.now.blocks) (B.post self.now.blocks) }
+        requires { ReadsParts self.now E.pre E.post B.pre B.post }
         ensures { Reads (loop_block (parts self.now.depth) tokens.old) result tokens.new }
     {
         tokens.expect_word(Word::Do)?;
@@ -86,24 +99,25 @@ where
 
     /// The start, the limit or the step of a numerical `for`.
     fn bound(&self, tokens: &mut Tokens) -> Result<Measured<Boxed<Expr>>, Stop>
-        requires { Nests self.now.depth (E.pre self.now.parts) (E.post self.now.parts) (B.pre self.now.blocks) (B.post self.now.blocks) }
+        requires { ReadsParts self.now E.pre E.post B.pre B.post }
         ensures { Reads ((parts self.now.depth).expr 0 tokens.old) result tokens.new }
     {
-        let Measured { what, depth } = self.inner_expr(tokens, 0)?;
+        let (what, depth) = self.inner_expr(tokens, 0)?.into_parts();
         Ok(Measured::new(Boxed::new(self.alloc, what)?, depth))
     }
 
     /// The step of a numerical `for`.
     #[tactic(auto, using(crate::proofs::ForSteps::step_rules))]
     pub fn for_step(&self, tokens: &mut Tokens) -> Result<Measured<Option<Boxed<Expr>>>, Stop>
-        requires { Nests self.now.depth (E.pre self.now.parts) (E.post self.now.parts) (B.pre self.now.blocks) (B.post self.now.blocks) }
+        requires { ReadsParts self.now E.pre E.post B.pre B.post }
         ensures { Reads (over self.now.depth spec.for_step tokens.old) result tokens.new }
     {
         let Some(_) = tokens.sign(Sign::Comma) else {
             return Ok(Measured::new(None, 0));
         };
         let step = self.bound(tokens)?;
-        Ok(Measured::new(Some(step.what), step.depth))
+        let (step, depth) = step.into_parts();
+        Ok(Measured::new(Some(step), depth))
     }
 
     /// A numerical `for` after its equals sign.
@@ -114,8 +128,9 @@ where
         name: Bytes,
         place: Place,
     ) -> Result<Measured<Stat>, Stop>
-        requires { Nests self.now.depth (E.pre self.now.parts) (E.post self.now.parts) (B.pre self.now.blocks) (B.post self.now.blocks) }
-        ensures { Reads (over self.now.depth spec.for_numbers name place tokens.old) result tokens.new }
+        requires { ReadsParts self.now E.pre E.post B.pre B.post }
+        ensures { Reads (over self.now.depth spec.for_numbers name place tokens.old)
+            result tokens.new }
     {
         let start = self.bound(tokens)?;
         tokens.expect_sign(Sign::Comma)?;
@@ -131,8 +146,9 @@ where
         place: Place,
         start: Measured<Boxed<Expr>>,
     ) -> Result<Measured<Stat>, Stop>
-        requires { Nests self.now.depth (E.pre self.now.parts) (E.post self.now.parts) (B.pre self.now.blocks) (B.post self.now.blocks) }
-        ensures { Reads (numbers_from self.now.depth name place start tokens.old) result tokens.new }
+        requires { ReadsParts self.now E.pre E.post B.pre B.post }
+        ensures { Reads (numbers_from self.now.depth name place start tokens.old)
+            result tokens.new }
     {
         let limit = self.bound(tokens)?;
         let step = self.for_step(tokens)?;
@@ -150,8 +166,9 @@ where
         limit: Measured<Boxed<Expr>>,
         step: Measured<Option<Boxed<Expr>>>,
     ) -> Result<Measured<Stat>, Stop>
-        requires { Nests self.now.depth (E.pre self.now.parts) (E.post self.now.parts) (B.pre self.now.blocks) (B.post self.now.blocks) }
-        ensures { Reads (numbers_block (parts self.now.depth) name place start limit step tokens.old) result tokens.new }
+        requires { ReadsParts self.now E.pre E.post B.pre B.post }
+        ensures { Reads (numbers_block
+            (parts self.now.depth) name place start limit step tokens.old) result tokens.new }
     {
         let block = self.loop_block(tokens)?;
         Ok(numbers_stat(name, place, start, limit, step, block))
@@ -164,7 +181,7 @@ where
         tokens: &mut Tokens,
         found: Row<(Bytes, Place)>,
     ) -> Result<Row<(Bytes, Place)>, Stop>
-        requires { Nests self.now.depth (E.pre self.now.parts) (E.post self.now.parts) (B.pre self.now.blocks) (B.post self.now.blocks) }
+        requires { ReadsParts self.now E.pre E.post B.pre B.post }
         ensures { Reads (over self.now.depth spec.for_names found tokens.old) result tokens.new }
     {
         let mut names = found.into_vec();
@@ -184,8 +201,9 @@ where
         name: Bytes,
         place: Place,
     ) -> Result<Measured<Stat>, Stop>
-        requires { Nests self.now.depth (E.pre self.now.parts) (E.post self.now.parts) (B.pre self.now.blocks) (B.post self.now.blocks) }
-        ensures { Reads (over self.now.depth spec.for_each name place tokens.old) result tokens.new }
+        requires { ReadsParts self.now E.pre E.post B.pre B.post }
+        ensures { Reads (over self.now.depth spec.for_each name place tokens.old)
+            result tokens.new }
     {
         let first = single(self.alloc, (name, place))?;
         let names = self.for_names(tokens, first)?;
@@ -201,21 +219,24 @@ where
         names: Row<(Bytes, Place)>,
         values: Measured<Row<Expr>>,
     ) -> Result<Measured<Stat>, Stop>
-        requires { Nests self.now.depth (E.pre self.now.parts) (E.post self.now.parts) (B.pre self.now.blocks) (B.post self.now.blocks) }
-        ensures { Reads (each_block (parts self.now.depth) names values tokens.old) result tokens.new }
+        requires { ReadsParts self.now E.pre E.post B.pre B.post }
+        ensures { Reads (each_block (parts self.now.depth) names values tokens.old)
+            result tokens.new }
     {
         tokens.expect_word(Word::Do)?;
         let block = self.inner_block(tokens)?;
         tokens.expect_word(Word::End)?;
         let depth = values.depth.max(block.depth);
-        let repeated = Block { stats: block.what };
-        Ok(Measured::new(Stat::ForIn(names, values.what, repeated), depth))
+        let repeated = Block {
+            stats: block.into_what(),
+        };
+        Ok(Measured::new(Stat::ForIn(names, values.into_what(), repeated), depth))
     }
 
     /// A `for` statement after its word.
     #[tactic(auto, using(crate::proofs::ForSteps::for_rules))]
     pub fn after_for(&self, tokens: &mut Tokens) -> Result<Measured<Stat>, Stop>
-        requires { Nests self.now.depth (E.pre self.now.parts) (E.post self.now.parts) (B.pre self.now.blocks) (B.post self.now.blocks) }
+        requires { ReadsParts self.now E.pre E.post B.pre B.post }
         ensures { Reads (over self.now.depth spec.after_for tokens.old) result tokens.new }
     {
         let (name, place) = tokens.expect_name()?;

@@ -3,7 +3,7 @@
 ghost use Rattle.std.specs.Prelude.{true};
 ghost use Rattle.lua_grammar.specs.Expressions as spec;
 ghost use Rattle.lua_grammar.specs.Statements.{parts};
-ghost use Rattle.lua_parser.specs.Nests.{Nests};
+ghost use Rattle.lua_parser.specs.Nests.{ReadsParts};
 ghost use Rattle.lua_parser.specs.Reads.{Reads};
 
 use crate::cursor::Tokens;
@@ -29,8 +29,9 @@ where
         least: u8,
         first: Measured<Expr>,
     ) -> Result<Measured<Expr>, Stop>
-        requires { Nests self.now.depth (E.pre self.now.parts) (E.post self.now.parts) (B.pre self.now.blocks) (B.post self.now.blocks) }
-        ensures { Reads (spec.climb (parts self.now.depth) least first tokens.old) result tokens.new }
+        requires { ReadsParts self.now E.pre E.post B.pre B.post }
+        ensures { Reads (spec.climb (parts self.now.depth) least first tokens.old)
+            result tokens.new }
     {
         let mut found = first;
         'turns: loop {
@@ -46,8 +47,9 @@ where
     /// An expression of operators from this level on.
     #[tactic(auto, using(crate::proofs::OpTurns::level_rules))]
     pub fn from_level(&self, tokens: &mut Tokens, least: u8) -> Result<Measured<Expr>, Stop>
-        requires { Nests self.now.depth (E.pre self.now.parts) (E.post self.now.parts) (B.pre self.now.blocks) (B.post self.now.blocks) }
-        ensures { Reads (spec.from_level (parts self.now.depth) true least tokens.old) result tokens.new }
+        requires { ReadsParts self.now E.pre E.post B.pre B.post }
+        ensures { Reads (spec.from_level (parts self.now.depth) true least tokens.old)
+            result tokens.new }
     {
         let first = self.operand(tokens)?;
         if !tokens.has_operator(least) {
@@ -64,7 +66,7 @@ where
         tokens: &mut Tokens,
         first: Measured<Expr>,
     ) -> Result<Measured<Expr>, Stop>
-        requires { Nests self.now.depth (E.pre self.now.parts) (E.post self.now.parts) (B.pre self.now.blocks) (B.post self.now.blocks) }
+        requires { ReadsParts self.now E.pre E.post B.pre B.post }
         ensures { Reads (spec.rest_of (parts self.now.depth) first tokens.old) result tokens.new }
     {
         let operand = self.suffixes(tokens, first)?;

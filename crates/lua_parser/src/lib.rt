@@ -1,4 +1,5 @@
-//! The parser of Lua scripts: the tree that their tokens spell, or the first token that no script goes on with.
+//! The parser of Lua scripts: the tree that their tokens spell, or the first token that no script
+//! goes on with.
 #![tactic(auto)]
 
 mod arguments;
@@ -11,6 +12,7 @@ mod declarations;
 mod fault;
 mod groups;
 mod iterations;
+mod jumps;
 mod knot;
 mod levels;
 mod lists;
@@ -20,11 +22,10 @@ mod operator;
 mod parts;
 mod rows;
 mod script;
+mod start;
 mod stop;
 mod suffixes;
 mod tables;
-#[cfg(test)]
-mod tests;
 
 ghost use Rattle.std.specs.Prelude.{◌≡◌, ◌≤◌, List};
 ghost use Rattle.lua_tokens.specs.declared.token.Token as token;
@@ -38,17 +39,19 @@ pub use fault::ParseFault;
 use fault::fault_at;
 use lua_tokens::TokenList;
 use lua_tree::Tree;
+pub use script::DEEPEST;
 use script::script;
 use std::alloc::Global;
 use stop::Stop;
 
-/// The tree that a script's tokens spell (manual, section 9), the last of which is `End`. It is at most 60 deep: an expression
-/// is one deeper than the deepest of its parts, and a block than the deepest expression, block or function body in its
-/// statements. Else the fault comes of the first token with which those up to it begin no such script.
+/// The tree that a script's tokens spell (manual, section 9), the last of which is `End`. It is at
+/// most `DEEPEST` deep: an expression is one deeper than the deepest of its parts, and a block than
+/// the deepest expression, block or function body in its statements. Else the fault comes of the
+/// first token with which those up to it begin no such script.
 pub fn parse(alloc: Global, tokens: TokenList) -> Result<Tree, ParseFault>
     requires { EndsWithEnd tokens }
     ensures answers { Answers tokens result }
-    ensures only { (it : tree.Tree) → Spells it tokens → depth_of it ≤ 60 → Finds result it }
+    ensures only { (it : tree.Tree) → Spells it tokens → depth_of it ≤ DEEPEST → Finds result it }
 {
     let mut left = Tokens::new(tokens);
     match script(alloc, &mut left) {
@@ -62,10 +65,12 @@ pub fn parse(alloc: Global, tokens: TokenList) -> Result<Tree, ParseFault>
 
 /// At most one tree spells a list of tokens.
 pub fn one_tree()
-    ensures { (a b : tree.Tree) (tokens : List token.Token) → Spells a tokens → Spells b tokens → a ≡ b }
+    ensures { (a b : tree.Tree) (tokens : List token.Token) → Spells a tokens
+        → Spells b tokens → a ≡ b }
 {}
 
-/// Each list of tokens that ends with `End` has one tree of a depth of at most 60 and no fault, or one fault and no such tree.
+/// Each list of tokens that ends with `End` has one tree of a depth of at most `DEEPEST` and no
+/// fault, or one fault and no such tree.
 pub fn one_answer()
     ensures { (tokens : List token.Token) → EndsWithEnd tokens → OneAnswer tokens }
 {}

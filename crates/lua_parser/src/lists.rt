@@ -3,7 +3,7 @@
 ghost use Rattle.std.specs.Prelude.{◌≡◌, ◌≤◌, IfOk, OnOk};
 ghost use Rattle.lua_grammar.specs.Expressions as spec;
 ghost use Rattle.lua_grammar.specs.Statements.{parts};
-ghost use Rattle.lua_parser.specs.Nests.{Nests};
+ghost use Rattle.lua_parser.specs.Nests.{ReadsParts};
 ghost use Rattle.lua_parser.specs.Reads.{Reads};
 
 use crate::cursor::Tokens;
@@ -30,7 +30,7 @@ pub fn push<T: Drop>(
 ) -> Result<(), AllocError>
     ensures { OnOk result (list.new ≡ spec.with_one list.old one) }
 {
-    let Measured { what, depth } = one;
+    let (what, depth) = one.into_parts();
     if list.what.is_empty() {
         let mut items = Vec::with_capacity(alloc, 1)?;
         items.push_reserved(what);
@@ -46,7 +46,7 @@ pub fn push<T: Drop>(
 pub fn only<T: Drop>(alloc: Global, one: Measured<T>) -> Result<Measured<Row<T>>, AllocError>
     ensures { IfOk result (λ list. list ≡ spec.only one) }
 {
-    let Measured { what, depth } = one;
+    let (what, depth) = one.into_parts();
     let mut list = Vec::with_capacity(alloc, 1)?;
     list.push_reserved(what);
     Ok(Measured::new(Row::of(list), depth))
@@ -64,8 +64,9 @@ where
         tokens: &mut Tokens,
         first: Measured<Row<Expr>>,
     ) -> Result<Measured<Row<Expr>>, Stop>
-        requires { Nests self.now.depth (E.pre self.now.parts) (E.post self.now.parts) (B.pre self.now.blocks) (B.post self.now.blocks) }
-        ensures { Reads (spec.more_exprs (parts self.now.depth) first tokens.old) result tokens.new }
+        requires { ReadsParts self.now E.pre E.post B.pre B.post }
+        ensures { Reads (spec.more_exprs (parts self.now.depth) first tokens.old)
+            result tokens.new }
     {
         let mut found = first;
         'more: while let Some(_) = tokens.sign(Sign::Comma) {
@@ -77,7 +78,7 @@ where
     /// A list of expressions.
     #[tactic(auto, using(crate::proofs::Low::exprs_low), unfolding(lua_grammar::specs::Expressions::list))]
     pub fn list(&self, tokens: &mut Tokens) -> Result<Measured<Row<Expr>>, Stop>
-        requires { Nests self.now.depth (E.pre self.now.parts) (E.post self.now.parts) (B.pre self.now.blocks) (B.post self.now.blocks) }
+        requires { ReadsParts self.now E.pre E.post B.pre B.post }
         ensures list { Reads (spec.list (parts self.now.depth) tokens.old) result tokens.new }
         ensures low { IfOk result (λ list. list.depth ≤ self.now.depth) }
     {

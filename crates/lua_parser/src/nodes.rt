@@ -54,7 +54,7 @@ pub fn grouped(
     requires { inner.depth < 1000 }
     ensures { IfOk result (λ e. e ≡ spec.grouped place inner) }
 {
-    let Measured { what, depth } = inner;
+    let (what, depth) = inner.into_parts();
     Ok(above(ExprKind::Paren(Boxed::new(alloc, what)?), place, depth))
 }
 
@@ -69,11 +69,11 @@ pub fn dotted(
     requires { object.depth < 1000 }
     ensures { IfOk result (λ e. e ≡ spec.dotted object place name name_place) }
 {
-    let Measured { what, depth } = object;
+    let (what, depth) = object.into_parts();
     let key = leaf(ExprKind::Text(name), name_place);
     let pair = Pair {
         left: what,
-        right: key.what,
+        right: key.into_what(),
     };
     Ok(above(ExprKind::Index(Boxed::new(alloc, pair)?), place, depth))
 }
@@ -91,8 +91,8 @@ pub fn indexed(
 {
     let depth = object.depth.max(key.depth);
     let pair = Pair {
-        left: object.what,
-        right: key.what,
+        left: object.into_what(),
+        right: key.into_what(),
     };
     Ok(above(ExprKind::Index(Boxed::new(alloc, pair)?), place, depth))
 }
@@ -109,8 +109,8 @@ pub fn called(
     let Arguments { exprs, place } = arguments;
     let depth = function.depth.max(exprs.depth);
     let kind = ExprKind::Call(
-        Boxed::new(alloc, function.what)?,
-        Boxed::new(alloc, exprs.what)?,
+        Boxed::new(alloc, function.into_what())?,
+        Boxed::new(alloc, exprs.into_what())?,
     );
     Ok(above(kind, place, depth))
 }
@@ -128,9 +128,9 @@ pub fn method_called(
     let Arguments { exprs, place } = arguments;
     let depth = object.depth.max(exprs.depth);
     let kind = ExprKind::Method(
-        Boxed::new(alloc, object.what)?,
+        Boxed::new(alloc, object.into_what())?,
         Boxed::new(alloc, name)?,
-        Boxed::new(alloc, exprs.what)?,
+        Boxed::new(alloc, exprs.into_what())?,
     );
     Ok(above(kind, place, depth))
 }
@@ -144,7 +144,7 @@ pub fn unary_node(
     requires { inner.depth < 1000 }
     ensures { IfOk result (λ e. e ≡ spec.unary_node operator place inner) }
 {
-    let Measured { what, depth } = inner;
+    let (what, depth) = inner.into_parts();
     let kind = ExprKind::Unary(operator, Boxed::new(alloc, what)?);
     Ok(above(kind, place, depth))
 }
@@ -162,8 +162,8 @@ pub fn binary_node(
 {
     let depth = left.depth.max(right.depth);
     let pair = Pair {
-        left: left.what,
-        right: right.what,
+        left: left.into_what(),
+        right: right.into_what(),
     };
     let parts = Boxed::new(alloc, pair)?;
     match operator {
@@ -182,7 +182,7 @@ pub fn function_node(
     requires { body.depth < 1000 }
     ensures { IfOk result (λ e. e ≡ spec.function_node place body) }
 {
-    let Measured { what, depth } = body;
+    let (what, depth) = body.into_parts();
     Ok(above(ExprKind::Function(Boxed::new(alloc, what)?), place, depth))
 }
 
@@ -190,6 +190,6 @@ pub fn table_node(place: Place, fields: Measured<Row<Field>>) -> Measured<Expr>
     requires { fields.depth < 1000 }
     ensures { result ≡ spec.table_node place fields }
 {
-    let Measured { what, depth } = fields;
+    let (what, depth) = fields.into_parts();
     above(ExprKind::Table(what), place, depth)
 }

@@ -3,8 +3,10 @@
 ghost use Rattle.std.specs.Prelude.{◌≡◌, true, None};
 ghost use Rattle.lua_grammar.specs.Expressions as spec;
 ghost use Rattle.lua_grammar.specs.Statements.{parts};
-ghost use Rattle.lua_parser.specs.Looks.{kind_at, name_at};
-ghost use Rattle.lua_parser.specs.Nests.{Nests};
+ghost use Rattle.lua_tokens.specs.declared.token.Lexeme.TheVariants as l;
+ghost use Rattle.lua_tokens.specs.declared.sign.Sign.TheVariants as s;
+ghost use Rattle.lua_parser.specs.Looks.{kind_at, name_at, place_of};
+ghost use Rattle.lua_parser.specs.Nests.{ReadsParts};
 ghost use Rattle.lua_parser.specs.Reads.{Reads};
 
 use crate::cursor::Tokens;
@@ -26,9 +28,9 @@ where
     B: Fn(Global, &mut Tokens, usize) -> Result<Measured<Row<Stat>>, Stop> + Copy,
 {
     /// An expression without a binary operator.
-    #[tactic(auto, using(crate::proofs::OperandTurns::operand_rules))]
+    #[tactic(auto, using(crate::proofs::OperandTurns::rules))]
     pub fn operand(&self, tokens: &mut Tokens) -> Result<Measured<Expr>, Stop>
-        requires { Nests self.now.depth (E.pre self.now.parts) (E.post self.now.parts) (B.pre self.now.blocks) (B.post self.now.blocks) }
+        requires { ReadsParts self.now E.pre E.post B.pre B.post }
         ensures { Reads (spec.operand (parts self.now.depth) true tokens.old) result tokens.new }
     {
         if let Some((kind, place)) = tokens.atom()? {
@@ -46,9 +48,9 @@ where
 
     /// An operand that begins with neither an atom nor a name.
     #[inline(never)]
-    #[tactic(auto, using(crate::proofs::OperandTurns::operand_rules, crate::proofs::Low::unary_low))]
+    #[tactic(auto, using(crate::proofs::OperandTurns::rules, crate::proofs::Low::unary_low))]
     fn other_operand(&self, tokens: &mut Tokens) -> Result<Measured<Expr>, Stop>
-        requires nests { Nests self.now.depth (E.pre self.now.parts) (E.post self.now.parts) (B.pre self.now.blocks) (B.post self.now.blocks) }
+        requires nests { ReadsParts self.now E.pre E.post B.pre B.post }
         requires no_atom { kind_at tokens.old ≡ None }
         requires no_name { name_at tokens.old ≡ None }
         ensures { Reads (spec.operand (parts self.now.depth) true tokens.old) result tokens.new }
@@ -61,6 +63,20 @@ where
         if let Some(place) = tokens.sign(Sign::OpenBrace) {
             return self.table(tokens, place);
         }
+        self.last_operand(tokens)
+    }
+
+    /// A function, or an operand of a unary operator.
+    #[tactic(auto, using(crate::proofs::OperandTurns::rules, crate::proofs::Low::unary_low))]
+    fn last_operand(&self, tokens: &mut Tokens) -> Result<Measured<Expr>, Stop>
+        requires parts { ReadsParts self.now E.pre E.post B.pre B.post }
+        requires no_atom { kind_at tokens.old ≡ None }
+        requires no_name { name_at tokens.old ≡ None }
+        requires no_parenthesis { place_of (l.Sign s.OpenParen) tokens.old ≡ None }
+        requires no_brace { place_of (l.Sign s.OpenBrace) tokens.old ≡ None }
+        ensures { Reads (spec.operand (parts self.now.depth) true tokens.old) result tokens.new }
+    {
+        let room = 1 <= self.depth;
         if let Some(place) = tokens.word_if(Word::Function, room)? {
             let params = Row::of(Vec::new(self.alloc));
             let body = self.function_body(tokens, place, params)?;

@@ -10,7 +10,7 @@ use lua_tokens::{Lexeme, Sign, Word};
 use lua_tree::Binary;
 
 /// A binary operator of the manual's table of precedence (section 3.4.8).
-#[derive(Clone, Copy, Debug, PartialEq, Eq)]
+#[derive(Clone, Copy)]
 pub enum Operator {
     Or,
     And,

@@ -2,7 +2,6 @@
 
 ghost use Rattle.std.specs.Prelude.{◌≡◌, ◌<◌, ◌≤◌, ◌-◌};
 ghost use Rattle.lua_grammar.specs.Statements.{parts};
-ghost use Rattle.lua_parser.specs.Nests.{Nests};
 ghost use Rattle.lua_parser.specs.Reads.{Reads};
 
 use crate::cursor::Tokens;
@@ -14,7 +13,7 @@ use lua_tree::{Expr, Stat};
 use std::alloc::Global;
 
 /// A part that is an expression.
-#[derive(Debug, Drop)]
+#[derive(Drop)]
 pub enum Part {
     /// One of operators from this level on.
     Level(u8),
@@ -39,6 +38,8 @@ where
     E: Fn(Global, &mut Tokens, usize, Part) -> Result<Measured<Expr>, Stop> + Copy,
     B: Fn(Global, &mut Tokens, usize) -> Result<Measured<Row<Stat>>, Stop> + Copy,
 {
+    ghost use Rattle.lua_parser.specs.Nests.{ReadsParts};
+
     /// Those of a depth less by this, or of 0.
     pub fn below(&self, less: usize) -> Parts<E, B>
         ensures depth { result.depth ≡ self.now.depth - less }
@@ -55,7 +56,7 @@ where
 
     /// An expression of operators from this level on.
     pub fn inner_expr(&self, tokens: &mut Tokens, least: u8) -> Result<Measured<Expr>, Stop>
-        requires { Nests self.now.depth (E.pre self.now.parts) (E.post self.now.parts) (B.pre self.now.blocks) (B.post self.now.blocks) }
+        requires { ReadsParts self.now E.pre E.post B.pre B.post }
         ensures { Reads ((parts self.now.depth).expr least tokens.old) result tokens.new }
     {
         (self.parts)(self.alloc, tokens, self.depth, Part::Level(least))
@@ -67,7 +68,7 @@ where
         tokens: &mut Tokens,
         first: Measured<Expr>,
     ) -> Result<Measured<Expr>, Stop>
-        requires { Nests self.now.depth (E.pre self.now.parts) (E.post self.now.parts) (B.pre self.now.blocks) (B.post self.now.blocks) }
+        requires { ReadsParts self.now E.pre E.post B.pre B.post }
         ensures { Reads ((parts self.now.depth).rest first tokens.old) result tokens.new }
     {
         (self.parts)(self.alloc, tokens, self.depth, Part::Rest(first))
@@ -75,7 +76,7 @@ where
 
     /// A table constructor after the brace at this place.
     pub fn inner_table(&self, tokens: &mut Tokens, place: Place) -> Result<Measured<Expr>, Stop>
-        requires { Nests self.now.depth (E.pre self.now.parts) (E.post self.now.parts) (B.pre self.now.blocks) (B.post self.now.blocks) }
+        requires { ReadsParts self.now E.pre E.post B.pre B.post }
         ensures { Reads ((parts self.now.depth).table place tokens.old) result tokens.new }
     {
         (self.parts)(self.alloc, tokens, self.depth, Part::Table(place))
@@ -83,7 +84,7 @@ where
 
     /// The statements of a block.
     pub fn inner_block(&self, tokens: &mut Tokens) -> Result<Measured<Row<Stat>>, Stop>
-        requires { Nests self.now.depth (E.pre self.now.parts) (E.post self.now.parts) (B.pre self.now.blocks) (B.post self.now.blocks) }
+        requires { ReadsParts self.now E.pre E.post B.pre B.post }
         ensures { Reads ((parts self.now.depth).block tokens.old) result tokens.new }
     {
         (self.blocks)(self.alloc, tokens, self.depth)

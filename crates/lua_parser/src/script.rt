@@ -10,19 +10,19 @@ use lua_grammar::Measured;
 use lua_tree::{Block, Stat, Tree};
 use std::alloc::Global;
 
-/// The greatest depth of a script.
-const DEEPEST: usize = 60;
+/// The greatest depth of a script that is accepted.
+pub const DEEPEST: usize = 60;
 
-/// A script of a depth of at most 60.
+/// A script of at most that depth.
 #[tactic(auto, using(crate::proofs::ScriptEnds::script_rules))]
 pub fn script(alloc: Global, tokens: &mut Tokens) -> Result<Tree, Stop>
-    ensures { Reads (spec.script 60 tokens.old) result tokens.new }
+    ensures { Reads (spec.script DEEPEST tokens.old) result tokens.new }
 {
     let block = nested_block(alloc, tokens, DEEPEST)?;
     whole(tokens, block)
 }
 
-/// The end of a script, behind its block.
+/// The end of a script, after its block.
 #[tactic(auto, using(crate::proofs::ScriptEnds::whole_rules))]
 fn whole(tokens: &mut Tokens, block: Measured<Row<Stat>>) -> Result<Tree, Stop>
     ensures { Reads (spec.whole block tokens.old) result tokens.new }
@@ -34,6 +34,8 @@ fn whole(tokens: &mut Tokens, block: Measured<Row<Stat>>) -> Result<Tree, Stop>
         return Err(Stop::Bad);
     }
     Ok(Tree {
-        block: Block { stats: block.what },
+        block: Block {
+            stats: block.into_what(),
+        },
     })
 }

@@ -3,7 +3,7 @@
 ghost use Rattle.std.specs.Prelude.{◌≤◌, IfOk};
 ghost use Rattle.lua_grammar.specs.Expressions as spec;
 ghost use Rattle.lua_grammar.specs.Statements.{parts};
-ghost use Rattle.lua_parser.specs.Nests.{Nests};
+ghost use Rattle.lua_parser.specs.Nests.{ReadsParts};
 ghost use Rattle.lua_parser.specs.Reads.{Reads};
 ghost use Rattle.lua_parser.specs.Steps.{index_step, call_step, bracketed};
 
@@ -25,7 +25,7 @@ where
     /// An expression in brackets after the bracket.
     #[tactic(auto, using(crate::proofs::Low::first_low), unfolding(crate::specs::Steps::bracketed))]
     fn bracketed(&self, tokens: &mut Tokens) -> Result<Measured<Expr>, Stop>
-        requires { Nests self.now.depth (E.pre self.now.parts) (E.post self.now.parts) (B.pre self.now.blocks) (B.post self.now.blocks) }
+        requires { ReadsParts self.now E.pre E.post B.pre B.post }
         ensures key { Reads (bracketed (parts self.now.depth) tokens.old) result tokens.new }
         ensures low { IfOk result (λ key. key.depth ≤ self.now.depth) }
     {
@@ -42,7 +42,7 @@ where
         tokens: &mut Tokens,
         object: Measured<Expr>,
     ) -> Result<(Measured<Expr>, bool), Stop>
-        requires { Nests self.now.depth (E.pre self.now.parts) (E.post self.now.parts) (B.pre self.now.blocks) (B.post self.now.blocks) }
+        requires { ReadsParts self.now E.pre E.post B.pre B.post }
         ensures { Reads (index_step (parts self.now.depth) object tokens.old) result tokens.new }
     {
         let room = object.depth <= self.depth;
@@ -67,7 +67,7 @@ where
         tokens: &mut Tokens,
         function: Measured<Expr>,
     ) -> Result<(Measured<Expr>, bool), Stop>
-        requires { Nests self.now.depth (E.pre self.now.parts) (E.post self.now.parts) (B.pre self.now.blocks) (B.post self.now.blocks) }
+        requires { ReadsParts self.now E.pre E.post B.pre B.post }
         ensures { Reads (call_step (parts self.now.depth) function tokens.old) result tokens.new }
     {
         let room = function.depth <= self.depth;
@@ -94,7 +94,7 @@ where
         tokens: &mut Tokens,
         first: Measured<Expr>,
     ) -> Result<Measured<Expr>, Stop>
-        requires { Nests self.now.depth (E.pre self.now.parts) (E.post self.now.parts) (B.pre self.now.blocks) (B.post self.now.blocks) }
+        requires { ReadsParts self.now E.pre E.post B.pre B.post }
         ensures { Reads (spec.suffixes (parts self.now.depth) first tokens.old) result tokens.new }
     {
         let mut found = first;

@@ -4,7 +4,7 @@ ghost use Rattle.std.specs.Prelude.{◌≤◌, IfOk};
 ghost use Rattle.lua_grammar.specs.Expressions as spec;
 ghost use Rattle.lua_grammar.specs.Statements.{parts};
 ghost use Rattle.lua_parser.specs.Fields as fields;
-ghost use Rattle.lua_parser.specs.Nests.{Nests};
+ghost use Rattle.lua_parser.specs.Nests.{ReadsParts};
 ghost use Rattle.lua_parser.specs.Reads.{Reads};
 
 use crate::cursor::Tokens;
@@ -47,23 +47,26 @@ where
         name: Bytes,
         place: Place,
     ) -> Result<Measured<Field>, Stop>
-        requires { Nests self.now.depth (E.pre self.now.parts) (E.post self.now.parts) (B.pre self.now.blocks) (B.post self.now.blocks) }
-        ensures field { Reads (fields.name_field (parts self.now.depth) name place tokens.old) result tokens.new }
+        requires { ReadsParts self.now E.pre E.post B.pre B.post }
+        ensures field { Reads (fields.name_field (parts self.now.depth) name place tokens.old)
+            result tokens.new }
         ensures low { IfOk result (λ field. field.depth ≤ self.now.depth) }
     {
         if let Some(_) = tokens.sign(Sign::Equal) {
-            let Measured { what, depth } = self.inner_expr(tokens, 0)?;
+            let (what, depth) = self.inner_expr(tokens, 0)?.into_parts();
             return Ok(Measured::new(Field::Named(name, what), depth));
         }
-        let Measured { what, depth } = self.inner_rest(tokens, nodes::name_leaf(name, place))?;
+        let rest = self.inner_rest(tokens, nodes::name_leaf(name, place))?;
+        let (what, depth) = rest.into_parts();
         Ok(Measured::new(Field::Item(what), depth))
     }
 
     /// A field after the bracket that begins it.
     #[tactic(auto, using(crate::proofs::Low::first_low), unfolding(crate::specs::Fields::key_field))]
     fn keyed_field(&self, tokens: &mut Tokens) -> Result<Measured<Field>, Stop>
-        requires { Nests self.now.depth (E.pre self.now.parts) (E.post self.now.parts) (B.pre self.now.blocks) (B.post self.now.blocks) }
-        ensures field { Reads (fields.key_field (parts self.now.depth) tokens.old) result tokens.new }
+        requires { ReadsParts self.now E.pre E.post B.pre B.post }
+        ensures field { Reads (fields.key_field (parts self.now.depth) tokens.old)
+            result tokens.new }
         ensures low { IfOk result (λ field. field.depth ≤ self.now.depth) }
     {
         let key = self.inner_expr(tokens, 0)?;
@@ -71,13 +74,14 @@ where
         tokens.expect_sign(Sign::Equal)?;
         let value = self.inner_expr(tokens, 0)?;
         let depth = key.depth.max(value.depth);
-        Ok(Measured::new(Field::Keyed(key.what, value.what), depth))
+        Ok(Measured::new(Field::Keyed(key.into_what(), value.into_what()), depth))
     }
 
     #[tactic(auto, using(crate::proofs::FieldTurns::field_rules, crate::proofs::Low::first_low))]
     fn field(&self, tokens: &mut Tokens) -> Result<Measured<Field>, Stop>
-        requires { Nests self.now.depth (E.pre self.now.parts) (E.post self.now.parts) (B.pre self.now.blocks) (B.post self.now.blocks) }
-        ensures field { Reads (fields.one_field (parts self.now.depth) tokens.old) result tokens.new }
+        requires { ReadsParts self.now E.pre E.post B.pre B.post }
+        ensures field { Reads (fields.one_field (parts self.now.depth) tokens.old)
+            result tokens.new }
         ensures low { IfOk result (λ field. field.depth ≤ self.now.depth) }
     {
         let room = 1 <= self.depth;
@@ -89,7 +93,7 @@ where
             let field = self.keyed_field(tokens)?;
             return Ok(field);
         }
-        let Measured { what, depth } = self.inner_expr(tokens, 0)?;
+        let (what, depth) = self.inner_expr(tokens, 0)?.into_parts();
         Ok(Measured::new(Field::Item(what), depth))
     }
 
@@ -97,7 +101,7 @@ where
     #[inline(never)]
     #[tactic(auto, using(crate::proofs::FieldTurns::table_rules))]
     pub fn table(&self, tokens: &mut Tokens, place: Place) -> Result<Measured<Expr>, Stop>
-        requires { Nests self.now.depth (E.pre self.now.parts) (E.post self.now.parts) (B.pre self.now.blocks) (B.post self.now.blocks) }
+        requires { ReadsParts self.now E.pre E.post B.pre B.post }
         ensures { Reads (spec.table (parts self.now.depth) place tokens.old) result tokens.new }
     {
         let mut found = lists::nothing(self.alloc);

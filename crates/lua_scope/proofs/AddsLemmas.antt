@@ -2,7 +2,7 @@
 use Rattle.std.proofs.Common.{◌≡◌, ◌∙◌, refl, ap, sym, List, [], ◌++◌, length, map, take, append_assoc}
 use Rattle.std.proofs.lemmas.List.{append-nil, map-append}
 use Rattle.std.proofs.Math.Seq.{take-append_seam}
-use Rattle.lua_scope.specs.declared.local.Local.{Local}
+use Rattle.lua_scope.specs.declared.scopes.Local.{Local}
 use Rattle.lua_scope.specs.Binding.{Names}
 
 -- a value with what is known of it

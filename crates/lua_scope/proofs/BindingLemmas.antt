@@ -3,7 +3,7 @@ use Rattle.std.proofs.Common.{◌≡◌, refl, ap, subst, ℕ, zero, suc, ◌+�
 use Rattle.std.specs.Str.{bytes_eq}
 use Rattle.std.proofs.lemmas.Slice.Eq.{bytes_eq-Decides}
 use borrow.Author.Tests.{ltb-true, ltb-false}
-use Rattle.lua_scope.specs.declared.local.Local.{Local}
+use Rattle.lua_scope.specs.declared.scopes.Local.{Local}
 use Rattle.lua_scope.specs.Visible.{or_else, last_named_from, last_named}
 use Rattle.lua_scope.specs.Binding.{Bytes, Names, Has, RefersTo, IsGlobal, innermost_from, innermost}
 

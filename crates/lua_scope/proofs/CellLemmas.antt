@@ -5,7 +5,7 @@ use Rattle.std.proofs.lemmas.Bool.{eqb-true, eq-eqb, le-ltb}
 use Rattle.std.proofs.lemmas.Bool.Decides.{eqb_tells}
 use Rattle.std.proofs.lemmas.List.{append-nil, length-set}
 use Rattle.std.proofs.lemmas.List.Folds.{list_any-append}
-use Rattle.lua_scope.specs.declared.local.Local.{Local}
+use Rattle.lua_scope.specs.declared.scopes.Local.{Local}
 use Rattle.lua_scope.specs.Binding.{Names, Named, none, joined, ended, referred, of_outer, captured, once, all_added, is_in}
 use Rattle.lua_scope.specs.Survey.{added}
 use Rattle.lua_scope.proofs.AddsLemmas.{Adds}

@@ -3,8 +3,10 @@ pub mod BindingLemmas
 pub mod BuildLemmas
 pub mod CaptureLemmas
 pub mod CellLemmas
+pub mod LabelLemmas
 pub mod Layers
 pub mod OnceLemmas
+pub mod OutlineLemmas
 pub mod RuleLemmas
 pub mod StepLemmas
 pub mod VisibleLemmas

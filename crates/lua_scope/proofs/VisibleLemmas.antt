@@ -2,7 +2,7 @@
 use Rattle.std.proofs.Common.{◌≡◌, ◌∙◌, refl, ap, sym, ℕ, suc, ◌+◌, ◌-◌, ◌<◌, ◌≤◌, true, false, List, [], ◌∷◌, ◌++◌, length, take, get_or, Option, Some, None, if◌then◌else◌, arith}
 use Rattle.std.proofs.lemmas.List.{take_more, length-take}
 use Rattle.std.specs.Str.{bytes_eq}
-use Rattle.lua_scope.specs.declared.local.Local.{Local}
+use Rattle.lua_scope.specs.declared.scopes.Local.{Local}
 use Rattle.lua_scope.specs.Visible.{or_else, last_named_from, last_named}
 
 or_else-assoc : (x y z : Option ℕ) → or_else (or_else x y) z ≡ or_else x (or_else y z)

@@ -1,7 +1,9 @@
--- Which local each name of a script refers to, by visibility (manual, section 3.5). A local is visible behind its statement to the
--- end of its block; a parameter or a variable of a `for` in the body of its function or loop; a `local function` in its own body
--- too, and a local of a `repeat` in its condition. A name refers to the innermost visible local of that name, which is the last that
--- was declared. A local is a cell where a function body in its scope names it, or a body inside that one.
+-- Which local each name of a script refers to, by visibility (manual, section 3.5). A local is
+-- visible after its statement to the end of its block; a parameter or a variable of a `for` in the
+-- body of its function or loop; a `local function` in its own body too, and a local of a `repeat`
+-- in its condition. A name refers to the innermost visible local of that name, which is the last
+-- that was declared. A local is a cell where a function body in its scope names it, or a body
+-- inside that one.
 use Rattle.std.specs.Prelude.{◌≡◌, ℕ, suc, ◌<◌, Bool, List, [], ◌∷◌, ◌++◌, length, map, nat_eq, nat_lt, slice_get, IsSomeAnd, if◌then◌else◌, Option, Some, None}
 use Rattle.std.specs.List.{list_any}
 use Rattle.std.specs.Str.{bytes_eq}
@@ -33,9 +35,11 @@ Names = List Bytes
 abbrev pub Has : Names → ℕ → Bytes → Type 0
 Has visible at name = IsSomeAnd (slice_get visible at) (λ n. n ≡ name)
 
--- a name refers to the visible local at a place: it has the name, and none that was declared later has
+-- a name refers to the visible local at a place: it has the name, and none that was declared later
+-- has
 abbrev pub RefersTo : Bytes → Names → ℕ → Type 0
-RefersTo name visible at = Has visible at name × ((later : ℕ) → at < later → ¬ Has visible later name)
+RefersTo name visible at =
+    Has visible at name × ((later : ℕ) → at < later → ¬ Has visible later name)
 
 -- a name is a global: no visible local has it
 abbrev pub IsGlobal : Bytes → Names → Type 0
@@ -44,17 +48,20 @@ IsGlobal name visible = (at : ℕ) → ¬ Has visible at name
 -- the place of the local to which a name refers, the place of the first being this
 abbrev pub innermost_from : ℕ → Bytes → Names → Option ℕ
 innermost_from at name [] = None
-innermost_from at name (n ∷ ns) = or_else (innermost_from (suc at) name ns) (if bytes_eq n name then Some at else None)
+innermost_from at name (n ∷ ns) =
+    or_else (innermost_from (suc at) name ns) (if bytes_eq n name then Some at else None)
 
 abbrev pub innermost : Bytes → Names → Option ℕ
 innermost name visible = innermost_from 0 name visible
 
 -- ---- what the names of a part refer to
 
--- What each name of a part refers to, those in function bodies too, in the order of the text: the place of a local among those that
--- are visible there, or none for a global. The places of these locals, but for the own ones of function bodies in the part. The
--- captures of each function body in it, in the order of their first tokens. And of each local that it declares, in the order in
--- which they become visible, whether it is a cell, given the captures of the bodies behind the part, up to the end of its block.
+-- What each name of a part refers to, those in function bodies too, in the order of the text: the
+-- place of a local among those that are visible there, or none for a global. The places of these
+-- locals, but for the own ones of function bodies in the part. The captures of each function body
+-- in it, in the order of their first tokens. And of each local that it declares, in the order in
+-- which they become visible, whether it is a cell, given the captures of the bodies after the
+-- part, up to the end of its block.
 pub record Named : Type 0 where
   pub names : List (Option ℕ)
   pub places : List ℕ
@@ -62,20 +69,26 @@ pub record Named : Type 0 where
   pub cells : List (List ℕ) → List Bool
 
 abbrev pub none : Named
-none = record { names = []; places = []; captures = []; cells = λ behind. [] }
+none = record { names = []; places = []; captures = []; cells = λ later. [] }
 
--- one part behind the other: those locals of the first whose block has not ended are visible in the second
+-- one part after the other: those locals of the first whose block has not ended are visible in the
+-- second
 abbrev pub joined : Named → Named → Named
 joined u v = record {
   names = u.names ++ v.names;
   places = u.places ++ v.places;
   captures = u.captures ++ v.captures;
-  cells = λ behind. u.cells (v.captures ++ behind) ++ v.cells behind;
+  cells = λ later. u.cells (v.captures ++ later) ++ v.cells later;
 }
 
--- a block, behind which its locals aren't visible
+-- a block, after which its locals aren't visible
 abbrev pub ended : Named → Named
-ended u = record { names = u.names; places = u.places; captures = u.captures; cells = λ behind. u.cells [] }
+ended u = record {
+  names = u.names;
+  places = u.places;
+  captures = u.captures;
+  cells = λ later. u.cells [];
+}
 
 abbrev pub Uses : Type 0
 Uses = Names → Named
@@ -95,8 +108,9 @@ perhaps None visible = none
 perhaps (Some f) visible = f visible
 
 abbrev pub referred : Option ℕ → Named
-referred None = record { names = None ∷ []; places = []; captures = []; cells = λ behind. [] }
-referred (Some at) = record { names = Some at ∷ []; places = at ∷ []; captures = []; cells = λ behind. [] }
+referred None = record { names = None ∷ []; places = []; captures = []; cells = λ later. [] }
+referred (Some at) =
+    record { names = Some at ∷ []; places = at ∷ []; captures = []; cells = λ later. [] }
 
 abbrev pub name : Bytes → Uses
 name n visible = referred (innermost n visible)
@@ -106,7 +120,8 @@ name n visible = referred (innermost n visible)
 -- those of the first so many locals, which are those of outer functions
 abbrev pub of_outer : ℕ → List ℕ → List ℕ
 of_outer count [] = []
-of_outer count (at ∷ more) = if nat_lt at count then at ∷ of_outer count more else of_outer count more
+of_outer count (at ∷ more) =
+    if nat_lt at count then at ∷ of_outer count more else of_outer count more
 
 abbrev pub all_added : List ℕ → List ℕ → List ℕ
 all_added [] ns = ns
@@ -116,8 +131,8 @@ all_added (n ∷ more) ns = all_added more (added n ns)
 abbrev pub once : List ℕ → List ℕ
 once ns = all_added ns []
 
--- A function body behind so many visible locals: its captures are those of them that it or its inner bodies name, in the order in
--- which they are first named.
+-- A function body after so many visible locals: its captures are those of them that it or its
+-- inner bodies name, in the order in which they are first named.
 abbrev pub captured : ℕ → Named → Named
 captured count u =
     let outer = of_outer count u.places in
@@ -131,12 +146,13 @@ is_in at captures = list_any (list_any (nat_eq at)) captures
 
 -- A local is a cell where a body in its scope captures it. The place of the first is this.
 abbrev pub cells_from : ℕ → Names → List (List ℕ) → List Bool
-cells_from at [] behind = []
-cells_from at (n ∷ ns) behind = is_in at behind ∷ cells_from (suc at) ns behind
+cells_from at [] later = []
+cells_from at (n ∷ ns) later = is_in at later ∷ cells_from (suc at) ns later
 
--- locals of these names are declared behind those that are visible
+-- locals of these names are declared after those that are visible
 abbrev pub declared : Names → Uses
-declared ns visible = record { names = []; places = []; captures = []; cells = cells_from (length visible) ns }
+declared ns visible =
+    record { names = []; places = []; captures = []; cells = cells_from (length visible) ns }
 
 -- where these locals are visible too
 abbrev pub under : Names → Uses → Uses
@@ -154,7 +170,7 @@ function params block visible = captured (length visible) (declaring params bloc
 
 -- ---- statements
 
--- what the names of a statement or a block refer to, and the locals that are visible behind it
+-- what the names of a statement or a block refer to, and the locals that are visible after it
 pub record Part : Type 0 where
   pub uses : Uses
   pub locals : Names
@@ -162,7 +178,7 @@ pub record Part : Type 0 where
 abbrev pub plain : Uses → Part
 plain u = record { uses = u; locals = [] }
 
--- a local is visible in the statements behind its own
+-- a local is visible in the statements after its own
 abbrev pub stats : List Part → Part
 stats [] = plain nothing
 stats (p ∷ ps) = record {
@@ -202,18 +218,23 @@ field_uses (Field-F.Named n e) = e
 field_uses (Field-F.Keyed x e) = both x e
 
 abbrev pub stat_binds : Stat-F Uses Uses Part Uses Uses Part Uses Uses → Part
-stat_binds (Stat-F.Local ns es) = record { uses = both (each es) (declared (locals ns)); locals = locals ns }
+stat_binds (Stat-F.Local ns es) =
+    record { uses = both (each es) (declared (locals ns)); locals = locals ns }
 stat_binds (Stat-F.Assign ts es) = plain (both (each ts) (each es))
 stat_binds (Stat-F.«Stat::Call» e) = plain e
 stat_binds (Stat-F.Do b) = plain (closed b.uses)
 stat_binds (Stat-F.While e b) = plain (both e (closed b.uses))
 stat_binds (Stat-F.Repeat b e) = plain (closed (both b.uses (under b.locals e)))
 stat_binds (Stat-F.If bs b) = plain (both (each bs) (or_nothing b))
-stat_binds (Stat-F.ForNum n p from to by b) = plain (both from (both to (both (perhaps by) (closed (declaring (n ∷ []) b.uses)))))
-stat_binds (Stat-F.ForIn ns es b) = plain (both (each es) (closed (declaring (variables ns) b.uses)))
+stat_binds (Stat-F.ForNum n p from to by b) =
+    plain (both from (both to (both (perhaps by) (closed (declaring (n ∷ []) b.uses)))))
+stat_binds (Stat-F.ForIn ns es b) =
+    plain (both (each es) (closed (declaring (variables ns) b.uses)))
 stat_binds (Stat-F.LocalFunction n p b) = record { uses = declaring (n ∷ []) b; locals = n ∷ [] }
 stat_binds (Stat-F.Return es) = plain (each es)
 stat_binds (Stat-F.Break p) = plain nothing
+stat_binds (Stat-F.Goto n p) = plain nothing
+stat_binds (Stat-F.Label n p) = plain nothing
 
 abbrev pub expr_uses : Expr-F Uses Uses Part Uses Uses Part Uses Uses → Uses
 expr_uses e = e.what
@@ -233,28 +254,44 @@ branch_uses b = both b.condition (closed b.block.uses)
 -- ---- whole parts
 
 abbrev pub of_kind : ExprKind → Uses
-of_kind = fold-ExprKind Uses Uses Part Uses Uses Part Uses Uses kind_uses field_uses stat_binds expr_uses pair_uses block_binds body_uses branch_uses
+of_kind =
+    fold-ExprKind Uses Uses Part Uses Uses Part Uses Uses
+    kind_uses field_uses stat_binds expr_uses pair_uses block_binds body_uses branch_uses
 
 abbrev pub of_expr : Expr → Uses
-of_expr = fold-Expr Uses Uses Part Uses Uses Part Uses Uses kind_uses field_uses stat_binds expr_uses pair_uses block_binds body_uses branch_uses
+of_expr =
+    fold-Expr Uses Uses Part Uses Uses Part Uses Uses
+    kind_uses field_uses stat_binds expr_uses pair_uses block_binds body_uses branch_uses
 
 abbrev pub of_pair : Pair → Uses
-of_pair = fold-Pair Uses Uses Part Uses Uses Part Uses Uses kind_uses field_uses stat_binds expr_uses pair_uses block_binds body_uses branch_uses
+of_pair =
+    fold-Pair Uses Uses Part Uses Uses Part Uses Uses
+    kind_uses field_uses stat_binds expr_uses pair_uses block_binds body_uses branch_uses
 
 abbrev pub of_field : Field → Uses
-of_field = fold-Field Uses Uses Part Uses Uses Part Uses Uses kind_uses field_uses stat_binds expr_uses pair_uses block_binds body_uses branch_uses
+of_field =
+    fold-Field Uses Uses Part Uses Uses Part Uses Uses
+    kind_uses field_uses stat_binds expr_uses pair_uses block_binds body_uses branch_uses
 
 abbrev pub of_stat : Stat → Part
-of_stat = fold-Stat Uses Uses Part Uses Uses Part Uses Uses kind_uses field_uses stat_binds expr_uses pair_uses block_binds body_uses branch_uses
+of_stat =
+    fold-Stat Uses Uses Part Uses Uses Part Uses Uses
+    kind_uses field_uses stat_binds expr_uses pair_uses block_binds body_uses branch_uses
 
 abbrev pub of_block : Block → Part
-of_block = fold-Block Uses Uses Part Uses Uses Part Uses Uses kind_uses field_uses stat_binds expr_uses pair_uses block_binds body_uses branch_uses
+of_block =
+    fold-Block Uses Uses Part Uses Uses Part Uses Uses
+    kind_uses field_uses stat_binds expr_uses pair_uses block_binds body_uses branch_uses
 
 abbrev pub of_body : Body → Uses
-of_body = fold-Body Uses Uses Part Uses Uses Part Uses Uses kind_uses field_uses stat_binds expr_uses pair_uses block_binds body_uses branch_uses
+of_body =
+    fold-Body Uses Uses Part Uses Uses Part Uses Uses
+    kind_uses field_uses stat_binds expr_uses pair_uses block_binds body_uses branch_uses
 
 abbrev pub of_branch : Branch → Uses
-of_branch = fold-Branch Uses Uses Part Uses Uses Part Uses Uses kind_uses field_uses stat_binds expr_uses pair_uses block_binds body_uses branch_uses
+of_branch =
+    fold-Branch Uses Uses Part Uses Uses Part Uses Uses
+    kind_uses field_uses stat_binds expr_uses pair_uses block_binds body_uses branch_uses
 
 -- the captures of each body of a script, the main body first, which has none
 abbrev pub captures_of : Tree → List (List ℕ)
@@ -270,4 +307,5 @@ cells_of tree = ((of_block tree.block).uses []).cells []
 
 -- all this of a script
 abbrev pub bindings_of : Tree → Bindings
-bindings_of tree = record { names = names_of tree; captured = cells_of tree; bodies = captures_of tree }
+bindings_of tree =
+    record { names = names_of tree; captured = cells_of tree; bodies = captures_of tree }

@@ -1,17 +1,22 @@
--- How slots, captured locals, captures and the numbers of bodies and texts follow from what the names of a tree refer to.
-use Rattle.std.specs.Prelude.{◌≡◌, ℕ, suc, ◌+◌, ◌-◌, Bool, false, List, [], ◌∷◌, ◌++◌, length, take, map, slice_get, slice_set, max, ◌==◌, nat_lt, if◌then◌else◌, Option, Some, None, Result, Ok, Err}
+-- How slots, captured locals, captures and the numbers of bodies and texts follow from what the
+-- names of a tree refer to.
+use Rattle.std.specs.Prelude.{◌≡◌, ℕ, suc, ◌+◌, ◌-◌, Bool, false, List, [], ◌∷◌, ◌++◌, length, take, drop, map, slice_get, slice_set, max, ◌==◌, nat_lt, if◌then◌else◌, Option, Some, None, Result, Ok, Err}
 use Rattle.std.specs.declared.alloc.AllocError.{AllocError}
 use Rattle.lanes_arena.specs.Names.{named, number_of}
 use Rattle.lua_scope.specs.declared.binding.Bindings.{Bindings}
 use Rattle.lua_scope.specs.declared.build.Builder.{Builder}
-use Rattle.lua_scope.specs.declared.build.Within.{Within}
-use Rattle.lua_scope.specs.declared.build.Opened.{Opened}
-use Rattle.lua_scope.specs.declared.program.Proto.{Proto}
-use Rattle.lua_scope.specs.declared.program.PlacedText.{PlacedText}
-use Rattle.lua_scope.specs.declared.program.Ref.{Ref}
-use Rattle.lua_scope.specs.declared.program.Ref.TheVariants as r
-use Rattle.lua_scope.specs.declared.program.UpFrom.{UpFrom}
-use Rattle.lua_scope.specs.declared.program.UpFrom.TheVariants.{ParentCell, ParentUp}
+use Rattle.lua_scope.specs.declared.build.FunctionFrame.{FunctionFrame}
+use Rattle.lua_scope.specs.declared.build.BlockFrame.{BlockFrame}
+use Rattle.lua_scope.specs.declared.labels.Target.{Target}
+use Rattle.lua_scope.specs.Labels as labels
+use Rattle.lua_program.specs.declared.stat.Jump.{Jump}
+use Rattle.lua_tokens.specs.declared.place.Place.{Place}
+use Rattle.lua_program.specs.declared.program.Proto.{Proto}
+use Rattle.lua_program.specs.declared.expr.PlacedText.{PlacedText}
+use Rattle.lua_program.specs.declared.expr.Ref.{Ref}
+use Rattle.lua_program.specs.declared.expr.Ref.TheVariants as r
+use Rattle.lua_program.specs.declared.program.UpFrom.{UpFrom}
+use Rattle.lua_program.specs.declared.program.UpFrom.TheVariants.{ParentCell, ParentUp}
 
 -- what is made of a part, and what is built then
 abbrev pub Make : Type 0 → Type 0
@@ -59,14 +64,15 @@ own_if found (Some number) slot = own found number slot
 -- the visible local at a place: an own one by its place among those of its function
 abbrev pub local : Bindings → ℕ → Builder → Ref
 local found at b =
-    if nat_lt at b.within.start then r.Up (capture_place found b.within.body at)
-    else own_if found (slice_get b.locals at) (at - b.within.start)
+    if nat_lt at b.frame.start then r.Up (capture_place found b.frame.body at)
+    else own_if found (slice_get b.locals at) (at - b.frame.start)
 
 abbrev pub text : List ℕ → Make ℕ
 text t b = (number_of b.texts t, record b { texts = named b.texts t })
 
 abbrev pub placed : List ℕ → Make PlacedText
-placed t b = (record { bytes = t; place = number_of b.texts t }, record b { texts = named b.texts t })
+placed t b =
+    (record { bytes = t; place = number_of b.texts t }, record b { texts = named b.texts t })
 
 abbrev pub referred : Bindings → List ℕ → Option ℕ → Make Ref
 referred found n (Some at) b = (local found at b, b)
@@ -79,21 +85,25 @@ looked_up (Some at) = at
 
 -- the next name of the text
 abbrev pub name : Bindings → List ℕ → Make Ref
-name found n b = referred found n (looked_up (slice_get found.names b.next)) (record b { next = b.next + 1 })
+name found n b =
+    referred found n (looked_up (slice_get found.names b.next)) (record b { next = b.next + 1 })
 
-abbrev pub up_from : Bindings → Within → ℕ → UpFrom
-up_from found within at = if nat_lt at within.start then ParentUp (capture_place found within.body at) else ParentCell (at - within.start)
+abbrev pub up_from : Bindings → FunctionFrame → ℕ → UpFrom
+up_from found frame at =
+    if nat_lt at frame.start
+    then ParentUp (capture_place found frame.body at)
+    else ParentCell (at - frame.start)
 
-abbrev pub ups : Bindings → Within → List ℕ → List UpFrom
-ups found within captures = map (up_from found within) captures
+abbrev pub ups : Bindings → FunctionFrame → List ℕ → List UpFrom
+ups found frame captures = map (up_from found frame) captures
 
-abbrev pub ups_of : Bindings → Within → ℕ → List UpFrom
-ups_of found within body = ups found within (captures_of found body)
+abbrev pub ups_of : Bindings → FunctionFrame → ℕ → List UpFrom
+ups_of found frame body = ups found frame (captures_of found body)
 
 -- ---- declarations
 
 abbrev pub slot_of_next : Builder → ℕ
-slot_of_next b = length b.locals - b.within.start
+slot_of_next b = length b.locals - b.frame.start
 
 abbrev pub declare : Bindings → Make Ref
 declare found b = (
@@ -101,38 +111,57 @@ declare found b = (
   record b {
     locals = b.locals ++ b.declared ∷ [];
     declared = b.declared + 1;
-    within = record b.within { slots = max b.within.slots (slot_of_next b + 1) };
+    frame = record b.frame { slots = max b.frame.slots (slot_of_next b + 1) };
   },
 )
 
 -- ---- blocks and bodies
 
-abbrev pub opened : Builder → Opened
-opened b = record { count = length b.locals; within = b.within }
+abbrev pub opened : Builder → BlockFrame
+opened b = record { locals = length b.locals; blocks = length b.blocks; function = b.frame }
 
-abbrev pub ended : Opened → Builder → Builder
-ended o b = record b { locals = take o.count b.locals }
+abbrev pub ended : BlockFrame → Builder → Builder
+ended o b = record b { locals = take o.locals b.locals; blocks = take o.blocks b.blocks }
+
+-- the statements of a block begin, with its labels
+abbrev pub with_labels : Bool → List labels.Outline → Builder → Builder
+with_labels is_repeat os b =
+    record b { blocks = labels.opened (length b.locals) is_repeat os b.blocks }
+
+-- the target of a goto
+abbrev pub target : List ℕ → Builder → Option Target
+target n b = labels.target_of n (length b.locals) (drop b.frame.blocks b.blocks)
+
+abbrev pub jump : List ℕ → Place → Option Target → Jump
+jump n p None = record { name = n; place = p; leaves = 0; statement = 0 }
+jump n p (Some t) = record { name = n; place = p; leaves = t.leaves; statement = t.statement }
 
 -- what stands in the place of a body that isn't finished
 abbrev pub blank : Proto
 blank = record { params = 0; cells = []; vararg = false; slots = 0; ups = []; body = []; line = 0 }
 
-abbrev pub entered : Make Opened
+abbrev pub entered : Make BlockFrame
 entered b = (
   opened b,
   record b {
     protos = b.protos ++ blank ∷ [];
-    within = record { body = length b.protos; start = length b.locals; slots = 0 };
+    frame = record {
+      body = length b.protos;
+      start = length b.locals;
+      blocks = length b.blocks;
+      slots = 0;
+    };
   },
 )
 
-abbrev pub exited : Opened → Proto → Make ℕ
+abbrev pub exited : BlockFrame → Proto → Make ℕ
 exited o p b = (
-  b.within.body,
+  b.frame.body,
   record b {
-    protos = slice_set b.protos b.within.body p;
-    locals = take o.count b.locals;
-    within = o.within;
+    protos = slice_set b.protos b.frame.body p;
+    locals = take o.locals b.locals;
+    blocks = take o.blocks b.blocks;
+    frame = o.function;
   },
 )
 
@@ -142,7 +171,8 @@ start = record {
   locals = [];
   next = 0;
   declared = 0;
-  within = record { body = 0; start = 0; slots = 0 };
+  blocks = [];
+  frame = record { body = 0; start = 0; blocks = 0; slots = 0 };
   protos = [];
   texts = [];
 }

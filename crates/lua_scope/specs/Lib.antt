@@ -1,6 +1,8 @@
-pub mod Behind
 pub mod Binding
 pub mod Build
+pub mod Faults
+pub mod Front
+pub mod Labels
 pub mod Resolved
 pub mod Rules
 pub mod Stands

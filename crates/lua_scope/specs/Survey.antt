@@ -1,50 +1,28 @@
--- The names of a tree, from first to last: which local each refers to, which locals inner bodies name, the captures of each body,
--- and the first place that breaks a rule of scope (manual, sections 3.3.4, 3.3.7, 3.4.11 and 3.5).
-use Rattle.std.specs.Prelude.{◌≡◌, ℕ, ◌+◌, ◌-◌, Bool, true, false, ◌&&◌, List, [], ◌∷◌, ◌++◌, length, take, slice_get, slice_set, nat_eq, nat_lt, nat_le, if◌then◌else◌, Option, Some, None, Result, Ok, Err, codes}
+-- What a walk over a tree knows at a place of the script, and how each part of the tree adds to it:
+-- which local each name refers to, which locals inner bodies name, and the captures of each body
+-- (manual, section 3.5).
+use Rattle.std.specs.Prelude.{ℕ, Bool, true, false, List, [], ◌∷◌, ◌++◌, length, take, drop, slice_get, slice_set, nat_eq, nat_lt, if◌then◌else◌, Option, Some, None, Result, Ok, Err, codes}
 use Rattle.std.specs.List.{list_any}
 use Rattle.std.specs.Str.{bytes_eq}
-use Rattle.lua_tokens.specs.declared.place.Place.{Place}
 use Rattle.lua_scope.specs.declared.fault.ScopeFault.{ScopeFault}
 use Rattle.lua_scope.specs.declared.fault.ScopeFault.TheVariants as fault
-use Rattle.lua_scope.specs.declared.local.Local.{Local}
+use Rattle.lua_scope.specs.declared.labels.OpenBlock.{OpenBlock}
+use Rattle.lua_scope.specs.declared.scopes.Local.{Local}
+use Rattle.lua_scope.specs.declared.scopes.BlockScope.{BlockScope}
 use Rattle.lua_scope.specs.declared.survey.Survey.{Survey}
 use Rattle.lua_scope.specs.declared.survey.Stopped.{Stopped}
-use Rattle.lua_scope.specs.declared.survey.Begun.{Begun}
 use Rattle.lua_scope.specs.declared.survey.Outer.{Outer}
+use Rattle.lua_scope.specs.Labels as labels
 use Rattle.lua_scope.specs.Visible.{last_named}
 
--- what is known after a part of the script, or the first rule that the part breaks
+-- what is known after a part of the script in which no rule is broken
 abbrev pub Step : Type 0
-Step = Survey → Result Survey ScopeFault
-
-abbrev pub after : Result Survey ScopeFault → Step → Result Survey ScopeFault
-after (Ok s) next = next s
-after (Err f) next = Err f
+Step = Survey → Survey
 
 -- what a function that walks over a part answers, with the reason where it stopped
 abbrev pub told : {X : Type 0} → Result X Stopped → Survey → Result X ScopeFault
 told (Ok x) s = Ok x
 told (Err e) s = Err s.fault
-
--- What a function that walks over a part ensures, unless memory runs out.
-abbrev pub Follows : Result Survey ScopeFault → Result (Unit {0}) ScopeFault → Survey → Type 0
-Follows outcome (Ok u) new = outcome ≡ Ok new
-Follows outcome (Err fault.Memory) new = Unit {0}
-Follows outcome (Err (fault.ConstAssigned p)) new = outcome ≡ Err (fault.ConstAssigned p)
-Follows outcome (Err (fault.BreakOutside p)) new = outcome ≡ Err (fault.BreakOutside p)
-Follows outcome (Err (fault.VarargOutside p)) new = outcome ≡ Err (fault.VarargOutside p)
-Follows outcome (Err (fault.TooManyLocals p)) new = outcome ≡ Err (fault.TooManyLocals p)
-Follows outcome (Err (fault.EnvName p)) new = outcome ≡ Err (fault.EnvName p)
-
--- What a walk over a whole script ensures, unless memory runs out.
-abbrev pub Surveys : Result Survey ScopeFault → Result Survey ScopeFault → Type 0
-Surveys outcome (Ok s) = outcome ≡ Ok s
-Surveys outcome (Err fault.Memory) = Unit {0}
-Surveys outcome (Err (fault.ConstAssigned p)) = outcome ≡ Err (fault.ConstAssigned p)
-Surveys outcome (Err (fault.BreakOutside p)) = outcome ≡ Err (fault.BreakOutside p)
-Surveys outcome (Err (fault.VarargOutside p)) = outcome ≡ Err (fault.VarargOutside p)
-Surveys outcome (Err (fault.TooManyLocals p)) = outcome ≡ Err (fault.TooManyLocals p)
-Surveys outcome (Err (fault.EnvName p)) = outcome ≡ Err (fault.EnvName p)
 
 -- ---- names
 
@@ -54,67 +32,87 @@ is_refused name = bytes_eq name (codes "_ENV")
 abbrev pub added : ℕ → List ℕ → List ℕ
 added n ns = if list_any (nat_eq n) ns then ns else ns ++ n ∷ []
 
-abbrev pub referred_to : Option Local → ℕ → Place → Bool → Step
-referred_to None at p is_target s = Ok s
-referred_to (Some l) at p is_target s =
-    if is_target && l.constant then Err (fault.ConstAssigned p)
-    else if nat_lt at s.inside.start then Ok (record s { captured = slice_set s.captured l.number true; captures = added at s.captures })
-    else Ok s
+abbrev pub referred_to : Option Local → ℕ → Step
+referred_to None at s = s
+referred_to (Some l) at s =
+    if nat_lt at s.function.start
+    then record s { captured = slice_set s.captured l.number true; captures = added at s.captures }
+    else s
 
-abbrev pub referred : ℕ → Place → Bool → Step
-referred at p is_target s = referred_to (slice_get s.locals at) at p is_target s
+abbrev pub referred : ℕ → Step
+referred at s = referred_to (slice_get s.locals at) at s
 
-abbrev pub found : Option ℕ → Place → Bool → Step
-found None p is_target s = Ok s
-found (Some at) p is_target s = referred at p is_target s
+abbrev pub found : Option ℕ → Step
+found None s = s
+found (Some at) s = referred at s
 
 -- what a name refers to is kept, in the order of the text
-abbrev pub noted : Option ℕ → Survey → Survey
+abbrev pub noted : Option ℕ → Step
 noted at s = record s { names = s.names ++ at ∷ [] }
 
-abbrev pub mentioned : List ℕ → Place → Bool → Step
-mentioned name p is_target s =
-    if is_refused name then Err (fault.EnvName p)
-    else found (last_named name s.locals) p is_target (noted (last_named name s.locals) s)
-
-abbrev pub dotted : Place → Step
-dotted p s = if s.inside.vararg then Ok s else Err (fault.VarargOutside p)
-
-abbrev pub broken_off : Place → Step
-broken_off p s = if s.inside.in_loop then Ok s else Err (fault.BreakOutside p)
-
--- a local is going to be declared, after so many others of its statement
-abbrev pub announced : List ℕ → Place → ℕ → Step
-announced name p before s =
-    if is_refused name then Err (fault.EnvName p)
-    else if nat_le 200 ((length s.locals - s.inside.start) + before) then Err (fault.TooManyLocals p)
-    else Ok s
+abbrev pub mentioned : List ℕ → Step
+mentioned name s = found (last_named name s.locals) (noted (last_named name s.locals) s)
 
 abbrev pub declared : List ℕ → Bool → Step
-declared name constant s = Ok (record s {
+declared name constant s = record s {
   locals = s.locals ++ record { name = name; constant = constant; number = length s.captured } ∷ [];
   captured = s.captured ++ false ∷ [];
-})
+}
+
+-- ---- labels
+
+-- a label was passed
+abbrev pub passed_label : List ℕ → Step
+passed_label name s = record s { labels = s.labels ++ name ∷ [] }
+
+-- the statements of a block begin
+abbrev pub opened : Bool → List labels.Outline → Step
+opened is_repeat os s = record s { blocks = labels.opened (length s.locals) is_repeat os s.blocks }
+
+-- the blocks of the function in which the walk stands, from the outermost inwards
+abbrev pub own_blocks : Survey → List OpenBlock
+own_blocks s = drop s.function.blocks s.blocks
+
+-- the labels passed in them
+abbrev pub own_labels : Survey → List (List ℕ)
+own_labels s = drop s.function.labels s.labels
 
 -- ---- blocks and bodies
 
-abbrev pub begun : Survey → Begun
-begun s = record { count = length s.locals; inside = s.inside }
+abbrev pub begun : Survey → BlockScope
+begun s = record {
+  locals = length s.locals;
+  labels = length s.labels;
+  blocks = length s.blocks;
+  function = s.function;
+}
 
-abbrev pub in_loop : Survey → Survey
-in_loop s = record s { inside = record s.inside { in_loop = true } }
+abbrev pub in_loop : Step
+in_loop s = record s { function = record s.function { in_loop = true } }
 
-abbrev pub ended : Begun → Survey → Survey
-ended b s = record s { locals = take b.count s.locals; inside = b.inside }
+abbrev pub ended : BlockScope → Step
+ended b s = record s {
+  locals = take b.locals s.locals;
+  labels = take b.labels s.labels;
+  blocks = take b.blocks s.blocks;
+  function = b.function;
+}
 
 abbrev pub outer : Survey → Outer
-outer s = record { begun = begun s; captures = s.captures }
+outer s = record { block = begun s; captures = s.captures }
 
-abbrev pub entered : Bool → Survey → Survey
+abbrev pub entered : Bool → Step
 entered vararg s = record s {
   bodies = s.bodies ++ [] ∷ [];
   captures = [];
-  inside = record { body = length s.bodies; start = length s.locals; vararg = vararg; in_loop = false };
+  function = record {
+    body = length s.bodies;
+    start = length s.locals;
+    labels = length s.labels;
+    blocks = length s.blocks;
+    vararg = vararg;
+    in_loop = false;
+  };
 }
 
 -- the captures of the body around this one
@@ -122,10 +120,10 @@ abbrev pub passed : ℕ → List ℕ → List ℕ → List ℕ
 passed start [] ns = ns
 passed start (n ∷ inner) ns = passed start inner (if nat_lt n start then added n ns else ns)
 
-abbrev pub exited : Outer → Survey → Survey
-exited o s = ended o.begun (record s {
-  bodies = slice_set s.bodies s.inside.body s.captures;
-  captures = passed o.begun.inside.start s.captures o.captures;
+abbrev pub exited : Outer → Step
+exited o s = ended o.block (record s {
+  bodies = slice_set s.bodies s.function.body s.captures;
+  captures = passed o.block.function.start s.captures o.captures;
 })
 
 -- nothing is found yet, at the start of the main body
@@ -136,6 +134,8 @@ start = record {
   captured = [];
   bodies = [] ∷ [];
   captures = [];
-  inside = record { body = 0; start = 0; vararg = true; in_loop = false };
+  labels = [];
+  blocks = [];
+  function = record { body = 0; start = 0; labels = 0; blocks = 0; vararg = true; in_loop = false };
   fault = fault.Memory;
 }

@@ -1,42 +1,51 @@
 //! What is built of a program while its tree is walked over.
-ghost use Rattle.std.specs.Prelude.{◌≡◌, IfOk};
+ghost use Rattle.std.specs.Prelude.{◌≡◌, map, IfOk, OnOk};
+ghost use Rattle.lua_scope.specs.Labels.{outline_of};
 ghost use Rattle.lua_scope.specs.Build as spec;
 ghost use Rattle.lua_scope.specs.Build.{Makes};
 
 use crate::binding::Bindings;
-use crate::local::close;
-use crate::program::{PlacedText, Proto, Ref, UpFrom};
+use crate::labels::{OpenBlock, find_target, open};
+use crate::scopes::{close, rest};
 use crate::texts::Texts;
 use lanes_arena::{Bytes, Row};
+use lua_program::{Jump, PlacedText, Proto, Ref, UpFrom};
+use lua_tokens::Place;
+use lua_tree::Stat;
 use sqlite_items::{Boxed, Items};
 use std::alloc::{AllocError, Global};
 
-/// The function body in which a place stands: its number, how many locals were visible where it begins, and how many slots it
-/// needs so far.
-#[derive(Clone, Copy, Debug)]
-pub struct Within {
+/// The function body in which a place stands: its number, how many locals were visible and how many
+/// blocks open where it begins, and how many slots it needs so far.
+#[derive(Clone, Copy)]
+pub struct FunctionFrame {
     pub body: usize,
     pub start: usize,
+    pub blocks: usize,
     pub slots: usize,
 }
 
-/// What was built: the visible locals, each by the number of its declaration, how many were declared so far, the number of the
-/// next name in the text, the body in which the walk stands, the bodies so far, and the texts so far.
+/// What was built: the visible locals, each by the number of its declaration, how many were
+/// declared so far, the number of the next name in the text, the open blocks, the body in which the
+/// walk stands, the bodies so far, and the texts so far.
 #[derive(Drop)]
 pub struct Builder {
     pub locals: Items<usize>,
     pub declared: usize,
     pub next: usize,
-    pub within: Within,
+    pub blocks: Items<OpenBlock>,
+    pub frame: FunctionFrame,
     pub protos: Items<Proto>,
     pub texts: Texts,
 }
 
-/// Where a block or a body began: how many locals were visible there, and the body in which it stands.
-#[derive(Clone, Copy, Debug)]
-pub struct Opened {
-    pub count: usize,
-    pub within: Within,
+/// Where a block or a body begins: how many locals are visible and how many blocks open there, and
+/// the body in which it stands.
+#[derive(Clone, Copy)]
+pub struct BlockFrame {
+    pub locals: usize,
+    pub blocks: usize,
+    pub function: FunctionFrame,
 }
 
 /// The same number in 16 bits, if there is one.
@@ -96,27 +105,27 @@ fn capture_place(found: &Bindings, body: usize, at: usize) -> usize
 }
 
 /// Where a new function finds the visible local at this place.
-fn up_from(found: &Bindings, within: Within, at: usize) -> Result<UpFrom, AllocError>
-    ensures { IfOk result (λ up. up ≡ spec.up_from found.now within at) }
+fn up_from(found: &Bindings, frame: FunctionFrame, at: usize) -> Result<UpFrom, AllocError>
+    ensures { IfOk result (λ up. up ≡ spec.up_from found.now frame at) }
 {
-    if at < within.start {
-        Ok(UpFrom::ParentUp(small(capture_place(found, within.body, at))?))
+    if at < frame.start {
+        Ok(UpFrom::ParentUp(small(capture_place(found, frame.body, at))?))
     } else {
-        Ok(UpFrom::ParentCell(small(at - within.start)?))
+        Ok(UpFrom::ParentCell(small(at - frame.start)?))
     }
 }
 
 fn ups(
     alloc: Global,
     found: &Bindings,
-    within: Within,
+    frame: FunctionFrame,
     captures: &[usize],
 ) -> Result<Row<UpFrom>, AllocError>
-    ensures { IfOk result (λ ups. ups ≡ spec.ups found.now within captures.now) }
+    ensures { IfOk result (λ ups. ups ≡ spec.ups found.now frame captures.now) }
 {
     let mut ups = Row::new(alloc);
     for at in captures {
-        ups.push(up_from(found, within, *at)?)?;
+        ups.push(up_from(found, frame, *at)?)?;
     }
     Ok(ups)
 }
@@ -125,13 +134,13 @@ fn ups(
 pub fn ups_of(
     alloc: Global,
     found: &Bindings,
-    within: Within,
+    frame: FunctionFrame,
     body: usize,
 ) -> Result<Row<UpFrom>, AllocError>
-    ensures { IfOk result (λ ups. ups ≡ spec.ups_of found.now within body) }
+    ensures { IfOk result (λ ups. ups ≡ spec.ups_of found.now frame body) }
 {
     match found.bodies.get(body) {
-        Some(captures) => ups(alloc, found, within, captures.as_slice()),
+        Some(captures) => ups(alloc, found, frame, captures.as_slice()),
         None => Ok(Row::new(alloc)),
     }
 }
@@ -160,9 +169,11 @@ impl Builder {
             locals: Items::new(alloc),
             declared: 0,
             next: 0,
-            within: Within {
+            blocks: Items::new(alloc),
+            frame: FunctionFrame {
                 body: 0,
                 start: 0,
+                blocks: 0,
                 slots: 0,
             },
             protos: Items::new(alloc),
@@ -185,7 +196,8 @@ impl Builder {
         Boxed::new(alloc, PlacedText { bytes, place })
     }
 
-    /// A local of the function in which the walk stands, by the number of its declaration and its slot.
+    /// A local of the function in which the walk stands, by the number of its declaration and its
+    /// slot.
     fn own(&self, found: &Bindings, number: usize, slot: usize) -> Result<Ref, AllocError>
         ensures { IfOk result (λ r. r ≡ spec.own found.now number slot) }
     {
@@ -201,11 +213,11 @@ impl Builder {
     fn local(&self, found: &Bindings, at: usize) -> Result<Ref, AllocError>
         ensures { IfOk result (λ r. r ≡ spec.local found.now at self.now) }
     {
-        if at < self.within.start {
-            return Ok(Ref::Up(small(capture_place(found, self.within.body, at))?));
+        if at < self.frame.start {
+            return Ok(Ref::Up(small(capture_place(found, self.frame.body, at))?));
         }
         match self.locals.get(at) {
-            Some(number) => self.own(found, *number, at - self.within.start),
+            Some(number) => self.own(found, *number, at - self.frame.start),
             None => Ok(Ref::Slot(0)),
         }
     }
@@ -234,61 +246,99 @@ impl Builder {
             return Err(AllocError);
         };
         let count = self.locals.len();
-        let slot = count.saturating_sub(self.within.start);
+        let slot = count.saturating_sub(self.frame.start);
         let Some(slots) = slot.checked_add(1) else {
             return Err(AllocError);
         };
         let local = self.own(found, number, slot)?;
         self.locals.push(number)?;
         self.declared = declared;
-        if slots > self.within.slots {
-            self.within.slots = slots;
+        if slots > self.frame.slots {
+            self.frame.slots = slots;
         }
         Ok(local)
     }
 
     /// A block begins.
-    pub fn begin(&self) -> Opened
+    pub fn begin(&self) -> BlockFrame
         ensures { result ≡ spec.opened self.now }
     {
-        Opened {
-            count: self.locals.len(),
-            within: self.within,
+        BlockFrame {
+            locals: self.locals.len(),
+            blocks: self.blocks.len(),
+            function: self.frame,
         }
     }
 
     /// A block ends, of the body in which the walk stands.
-    pub fn end(&mut self, opened: Opened)
-        ensures { self.new ≡ spec.ended opened self.old }
+    pub fn end(&mut self, block: BlockFrame)
+        ensures { self.new ≡ spec.ended block self.old }
     {
-        close(&mut self.locals, opened.count);
+        close(&mut self.locals, block.locals);
+        close(&mut self.blocks, block.blocks);
+    }
+
+    /// The statements of a block begin, which is the body of a `repeat` or not.
+    pub fn open(&mut self, alloc: Global, all: &[Stat], is_repeat: bool) -> Result<(), AllocError>
+        ensures { OnOk result (self.new
+            ≡ spec.with_labels is_repeat (map outline_of all.now) self.old) }
+    {
+        let start = self.locals.len();
+        open(alloc, &mut self.blocks, all, start, is_repeat)
+    }
+
+    /// A goto to this name, with its target.
+    pub fn jump(&self, name: Bytes, place: Place) -> Result<Jump, AllocError>
+        ensures { IfOk result (λ jump. jump ≡ spec.jump name place (spec.target name self.now)) }
+    {
+        let blocks = rest(self.frame.blocks, self.blocks.as_slice());
+        match find_target(name.as_slice(), self.locals.len(), blocks) {
+            Some(target) => {
+                let leaves = narrow(target.leaves)?;
+                let statement = narrow(target.statement)?;
+                Ok(Jump {
+                    name,
+                    place,
+                    leaves,
+                    statement,
+                })
+            }
+            None => Ok(Jump {
+                name,
+                place,
+                leaves: 0,
+                statement: 0,
+            }),
+        }
     }
 
     /// A body begins. Its number is taken.
-    pub fn enter(&mut self, alloc: Global) -> Result<Opened, AllocError>
+    pub fn enter(&mut self, alloc: Global) -> Result<BlockFrame, AllocError>
         ensures { Makes (spec.entered self.old) result self.new }
     {
-        let opened = self.begin();
+        let block = self.begin();
         let body = self.protos.len();
         self.protos.push(blank(alloc))?;
-        self.within = Within {
+        self.frame = FunctionFrame {
             body,
-            start: opened.count,
+            start: block.locals,
+            blocks: block.blocks,
             slots: 0,
         };
-        Ok(opened)
+        Ok(block)
     }
 
     /// A body ends, with what was made of it.
-    pub fn exit(&mut self, opened: Opened, proto: Proto) -> Result<u32, AllocError>
-        ensures { Makes (spec.exited opened proto self.old) result self.new }
+    pub fn exit(&mut self, block: BlockFrame, proto: Proto) -> Result<u32, AllocError>
+        ensures { Makes (spec.exited block proto self.old) result self.new }
     {
-        let body = self.within.body;
+        let body = self.frame.body;
         if body < self.protos.len() {
             self.protos.set(body, proto);
         }
-        close(&mut self.locals, opened.count);
-        self.within = opened.within;
+        close(&mut self.locals, block.locals);
+        close(&mut self.blocks, block.blocks);
+        self.frame = block.function;
         narrow(body)
     }
 }

@@ -1,23 +1,19 @@
-//! A walk over a tree, which turns it into its program. Each node is taken apart and let go, so that the program takes its memory.
-ghost use Rattle.std.specs.Prelude.{◌≡◌, map, IfOk};
+//! A walk over a tree, which turns it into its program. Each node is taken apart and dropped, so
+//! that the program takes its memory.
+ghost use Rattle.std.specs.Prelude.{◌≡◌, map, false, true, IfOk};
+ghost use Rattle.std.specs.Option.{option_map};
 ghost use Rattle.lua_scope.specs.Build.{Makes};
 ghost use Rattle.lua_scope.specs.Resolved as spec;
-ghost use Rattle.lua_scope.specs.declared.program.RExpr.{roll-RExpr};
 
 use crate::binding::Bindings;
-use crate::build::{Builder, Opened, small, ups_of};
-use crate::program::{Program, Proto, RBranch, RExpr, RExprKind, RField, RPair, RStat, Ref};
+use crate::build::{BlockFrame, Builder, small, ups_of};
+use crate::kept::Kept;
 use lanes_arena::{Bytes, Row};
+use lua_program::{Program, Proto, RBranch, RExpr, RExprKind, RField, RPair, RStat, Ref, Spot};
 use lua_tokens::Place;
 use lua_tree::{Block, Body, Branch, Expr, ExprKind, Field, Pair, Stat, Tree};
 use sqlite_items::Boxed;
 use std::alloc::{AllocError, Global};
-
-fn is_cell(r: &Ref) -> bool
-    ensures { result ≡ spec.is_cell r.now }
-{
-    matches!(r, Ref::CellSlot(_))
-}
 
 #[tactic(auto, using(crate::proofs::BuildLemmas::list_rules))]
 fn variables(
@@ -47,7 +43,7 @@ fn cells(
     let mut cells = Row::of(Vec::with_capacity(alloc, names.len())?);
     for _name in names {
         let local = builder.declare(found)?;
-        cells.push(is_cell(&local))?;
+        cells.push(local.is_cell())?;
     }
     Ok(cells)
 }
@@ -68,31 +64,25 @@ fn locals(
     Ok(refs)
 }
 
-#[inline(always)]
-fn at_line(what: RExprKind, line: u32) -> RExpr
-    ensures { result ≡ roll-RExpr (record { what = what; line = line }) }
-{
-    RExpr { what, line }
-}
-
 /// A body ends, with its parameters and statements.
 fn finished(
     alloc: Global,
     found: &Bindings,
     builder: &mut Builder,
-    opened: Opened,
+    block: BlockFrame,
     cells: Row<bool>,
     vararg: bool,
     body: Row<RStat>,
     line: u32,
 ) -> Result<u32, AllocError>
-    ensures { Makes (spec.finished found.now opened cells vararg body line builder.old) result builder.new }
+    ensures { Makes (spec.finished found.now block cells vararg body line builder.old)
+        result builder.new }
 {
     let params = small(cells.as_slice().len())?;
-    let slots = small(builder.within.slots)?;
-    let ups = ups_of(alloc, found, opened.within, builder.within.body)?;
+    let slots = small(builder.frame.slots)?;
+    let ups = ups_of(alloc, found, block.function, builder.frame.body)?;
     builder.exit(
-        opened,
+        block,
         Proto {
             params,
             cells,
@@ -115,63 +105,105 @@ fn expr(
     ensures { Makes (spec.expr_of found.now e builder.old) result builder.new }
 {
     let Expr { what, line } = e;
+    let what = kind(alloc, found, builder, what)?;
+    Ok(RExpr { what, line })
+}
+
+fn text(builder: &mut Builder, bytes: Bytes) -> Result<RExprKind, AllocError>
+    ensures { Makes (spec.text_made bytes builder.old) result builder.new }
+{
+    let place = builder.text(&bytes)?;
+    Ok(RExprKind::Text(bytes, place))
+}
+
+fn name(
+    alloc: Global,
+    found: &Bindings,
+    builder: &mut Builder,
+    name: Bytes,
+    place: Place,
+) -> Result<RExprKind, AllocError>
+    ensures { Makes (spec.name_made found.now name place builder.old) result builder.new }
+{
+    let r = builder.name(alloc, found, name)?;
+    Ok(RExprKind::Name(r, place))
+}
+
+/// A call of a function that is built.
+#[cycle(lower)]
+fn called(
+    alloc: Global,
+    found: &Bindings,
+    builder: &mut Builder,
+    all: Boxed<Row<Expr>>,
+    e: Boxed<RExpr>,
+) -> Result<RExprKind, AllocError>
+    ensures { Makes (spec.called found.now e (map (spec.expr_of found.now) all) builder.old)
+        result builder.new }
+{
+    let all = arguments(alloc, found, builder, all)?;
+    Ok(RExprKind::Call(e, all))
+}
+
+/// A call of a method of an object that is built.
+#[cycle(lower)]
+fn method(
+    alloc: Global,
+    found: &Bindings,
+    builder: &mut Builder,
+    all: Boxed<Row<Expr>>,
+    e: Boxed<RExpr>,
+    name: Boxed<Bytes>,
+) -> Result<RExprKind, AllocError>
+    ensures { Makes (spec.method found.now e name (map (spec.expr_of found.now) all) builder.old)
+        result builder.new }
+{
+    let name = builder.placed(alloc, name.into_inner())?;
+    let all = arguments(alloc, found, builder, all)?;
+    Ok(RExprKind::Method(e, name, all))
+}
+
+#[cycle(lower)]
+fn kind(
+    alloc: Global,
+    found: &Bindings,
+    builder: &mut Builder,
+    what: ExprKind,
+) -> Result<RExprKind, AllocError>
+    ensures { Makes (spec.kind_of found.now what builder.old) result builder.new }
+{
     match what {
-        ExprKind::Nil => Ok(at_line(RExprKind::Nil, line)),
-        ExprKind::True => Ok(at_line(RExprKind::True, line)),
-        ExprKind::False => Ok(at_line(RExprKind::False, line)),
-        ExprKind::Int(n) => Ok(at_line(RExprKind::Int(n), line)),
-        ExprKind::Text(t) => {
-            let place = builder.text(&t)?;
-            Ok(at_line(RExprKind::Text(t, place), line))
-        }
-        ExprKind::Dots(place) => Ok(at_line(RExprKind::Dots(place), line)),
-        ExprKind::Name(name, place) => {
-            let r = builder.name(alloc, found, name)?;
-            Ok(at_line(RExprKind::Name(r, place), line))
-        }
-        ExprKind::Index(two) => {
-            let two = pair(alloc, found, builder, two)?;
-            Ok(at_line(RExprKind::Index(two), line))
-        }
+        ExprKind::Nil => Ok(RExprKind::Nil),
+        ExprKind::True => Ok(RExprKind::True),
+        ExprKind::False => Ok(RExprKind::False),
+        ExprKind::Int(n) => Ok(RExprKind::Int(n)),
+        ExprKind::Text(bytes) => text(builder, bytes),
+        ExprKind::Dots(place) => Ok(RExprKind::Dots(place)),
+        ExprKind::Name(n, place) => name(alloc, found, builder, n, place),
+        ExprKind::Index(two) => pair(alloc, found, builder, two).map(RExprKind::Index),
         ExprKind::Call(e, all) => {
             let e = boxed(alloc, found, builder, e)?;
-            let all = arguments(alloc, found, builder, all)?;
-            Ok(at_line(RExprKind::Call(e, all), line))
+            called(alloc, found, builder, all, e)
         }
         ExprKind::Method(e, name, all) => {
             let e = boxed(alloc, found, builder, e)?;
-            let name = builder.placed(alloc, name.into_inner())?;
-            let all = arguments(alloc, found, builder, all)?;
-            Ok(at_line(RExprKind::Method(e, name, all), line))
+            method(alloc, found, builder, all, e, name)
         }
         ExprKind::Function(function) => {
-            let number = body(alloc, found, builder, function.into_inner())?;
-            Ok(at_line(RExprKind::Function(number), line))
+            body(alloc, found, builder, function.into_inner()).map(RExprKind::Function)
         }
         ExprKind::Binary(op, two) => {
             let two = pair(alloc, found, builder, two)?;
-            Ok(at_line(RExprKind::Binary(op, two), line))
+            Ok(RExprKind::Binary(op, two))
         }
         ExprKind::Unary(op, a) => {
             let a = boxed(alloc, found, builder, a)?;
-            Ok(at_line(RExprKind::Unary(op, a), line))
+            Ok(RExprKind::Unary(op, a))
         }
-        ExprKind::And(two) => {
-            let two = pair(alloc, found, builder, two)?;
-            Ok(at_line(RExprKind::And(two), line))
-        }
-        ExprKind::Or(two) => {
-            let two = pair(alloc, found, builder, two)?;
-            Ok(at_line(RExprKind::Or(two), line))
-        }
-        ExprKind::Paren(a) => {
-            let a = boxed(alloc, found, builder, a)?;
-            Ok(at_line(RExprKind::Paren(a), line))
-        }
-        ExprKind::Table(all) => {
-            let all = fields(alloc, found, builder, all)?;
-            Ok(at_line(RExprKind::Table(all), line))
-        }
+        ExprKind::And(two) => pair(alloc, found, builder, two).map(RExprKind::And),
+        ExprKind::Or(two) => pair(alloc, found, builder, two).map(RExprKind::Or),
+        ExprKind::Paren(a) => boxed(alloc, found, builder, a).map(RExprKind::Paren),
+        ExprKind::Table(all) => fields(alloc, found, builder, all).map(RExprKind::Table),
     }
 }
 
@@ -198,8 +230,10 @@ fn pair(
     ensures { Makes (spec.pair_of found.now two builder.old) result builder.new }
 {
     let Pair { left, right } = two.into_inner();
-    let left = expr(alloc, found, builder, left)?;
-    let right = expr(alloc, found, builder, right)?;
+    let right = Kept::new(right);
+    let left = Kept::new(expr(alloc, found, builder, left)?);
+    let right = expr(alloc, found, builder, right.into_inner())?;
+    let left = left.into_inner();
     Boxed::new(alloc, RPair { left, right })
 }
 
@@ -272,30 +306,48 @@ fn field(
             Ok(RField::Named(name, place, e))
         }
         Field::Keyed(key, e) => {
-            let key = expr(alloc, found, builder, key)?;
-            let e = expr(alloc, found, builder, e)?;
-            Ok(RField::Keyed(key, e))
+            let e = Kept::new(e);
+            let key = Kept::new(expr(alloc, found, builder, key)?);
+            let e = expr(alloc, found, builder, e.into_inner())?;
+            Ok(RField::Keyed(key.into_inner(), e))
         }
     }
 }
 
-/// The statements of a block, without an end of the locals that they declare.
+/// The statements of a block that is open, without its end.
 #[cycle(lower)]
 #[tactic(auto, using(crate::proofs::BuildLemmas::list_rules))]
 fn stats(
     alloc: Global,
     found: &Bindings,
     builder: &mut Builder,
-    b: Block,
+    all: Row<Stat>,
 ) -> Result<Row<RStat>, AllocError>
-    ensures { Makes (spec.block_of found.now b builder.old) result builder.new }
+    ensures { Makes (spec.all (map (λ x. x.what) (map (spec.stat_of found.now) all)) builder.old)
+        result builder.new }
 {
-    let all = b.stats.into_vec();
+    let all = all.into_vec();
     let mut made = Row::of(Vec::with_capacity(alloc, all.len())?);
     for s in all {
         made.push(stat(alloc, found, builder, s)?)?;
     }
     Ok(made)
+}
+
+/// A block, without its end.
+#[cycle(lower)]
+fn block(
+    alloc: Global,
+    found: &Bindings,
+    builder: &mut Builder,
+    b: Block,
+    is_repeat: bool,
+) -> Result<Row<RStat>, AllocError>
+    ensures { Makes (spec.block_of found.now b is_repeat builder.old) result builder.new }
+{
+    let Block { stats: all } = b;
+    builder.open(alloc, all.as_slice(), is_repeat)?;
+    stats(alloc, found, builder, all)
 }
 
 #[cycle(lower)]
@@ -305,11 +357,11 @@ fn nested(
     builder: &mut Builder,
     b: Block,
 ) -> Result<Row<RStat>, AllocError>
-    ensures { Makes (spec.nested (spec.block_of found.now b) builder.old) result builder.new }
+    ensures { Makes (spec.nested (spec.block_of found.now b false) builder.old) result builder.new }
 {
-    let opened = builder.begin();
-    let made = stats(alloc, found, builder, b)?;
-    builder.end(opened);
+    let begun = builder.begin();
+    let made = block(alloc, found, builder, b, false)?;
+    builder.end(begun);
     Ok(made)
 }
 
@@ -341,8 +393,9 @@ fn branch(
     ensures { Makes (spec.branch_of found.now b builder.old) result builder.new }
 {
     let Branch { condition, block } = b;
-    let condition = expr(alloc, found, builder, condition)?;
+    let condition = Kept::new(expr(alloc, found, builder, condition)?);
     let block = nested(alloc, found, builder, block)?;
+    let condition = condition.into_inner();
     Ok(RBranch { condition, block })
 }
 
@@ -353,13 +406,13 @@ fn body(alloc: Global, found: &Bindings, builder: &mut Builder, b: Body) -> Resu
     let Body {
         params,
         vararg,
-        block,
+        block: inner,
         line,
     } = b;
-    let opened = builder.enter(alloc)?;
+    let begun = builder.enter(alloc)?;
     let cells = cells(alloc, found, builder, params.as_slice())?;
-    let made = stats(alloc, found, builder, block)?;
-    finished(alloc, found, builder, opened, cells, vararg, made, line)
+    let made = block(alloc, found, builder, inner, false)?;
+    finished(alloc, found, builder, begun, cells, vararg, made, line)
 }
 
 /// A loop over numbers, once its start, limit and step are built.
@@ -370,13 +423,150 @@ fn counted(
     builder: &mut Builder,
     b: Block,
 ) -> Result<(Ref, Row<RStat>), AllocError>
-    ensures { Makes (spec.counted found.now (spec.block_of found.now b) builder.old) result builder.new }
+    ensures { Makes (spec.counted found.now (spec.block_of found.now b false) builder.old) result
+        builder.new }
 {
-    let opened = builder.begin();
+    let begun = builder.begin();
     let r = builder.declare(found)?;
-    let made = stats(alloc, found, builder, b)?;
-    builder.end(opened);
+    let made = block(alloc, found, builder, b, false)?;
+    builder.end(begun);
     Ok((r, made))
+}
+
+#[cycle(lower)]
+fn local(
+    alloc: Global,
+    found: &Bindings,
+    builder: &mut Builder,
+    values: Row<Expr>,
+    names: Row<(Bytes, bool, Place)>,
+) -> Result<RStat, AllocError>
+    ensures { Makes (spec.local_made found.now names (map (spec.expr_of found.now) values)
+        builder.old) result builder.new }
+{
+    let values = exprs(alloc, found, builder, values)?;
+    let refs = locals(alloc, found, builder, names.as_slice())?;
+    Ok(RStat::Local(refs, values))
+}
+
+#[cycle(lower)]
+fn local_function(
+    alloc: Global,
+    found: &Bindings,
+    builder: &mut Builder,
+    function: Body,
+) -> Result<RStat, AllocError>
+    ensures { Makes (spec.local_function found.now (spec.body_of found.now function) builder.old)
+        result builder.new }
+{
+    let r = builder.declare(found)?;
+    let number = body(alloc, found, builder, function)?;
+    Ok(RStat::LocalFunction(r, number))
+}
+
+/// The body of a `while` loop whose condition is built.
+#[cycle(lower)]
+fn while_body(
+    alloc: Global,
+    found: &Bindings,
+    builder: &mut Builder,
+    b: Block,
+    e: Kept<RExpr>,
+) -> Result<RStat, AllocError>
+    ensures { Makes (spec.while_body found.now e.part (spec.block_of found.now b) builder.old)
+        result builder.new }
+{
+    let made = nested(alloc, found, builder, b)?;
+    Ok(RStat::While(e.into_inner(), made))
+}
+
+/// The condition of a `repeat` loop whose body is built.
+#[cycle(lower)]
+fn until(
+    alloc: Global,
+    found: &Bindings,
+    builder: &mut Builder,
+    e: Expr,
+    begun: BlockFrame,
+    made: Row<RStat>,
+) -> Result<RStat, AllocError>
+    ensures { Makes (spec.until found.now begun made (spec.expr_of found.now e) builder.old)
+        result builder.new }
+{
+    let e = expr(alloc, found, builder, e)?;
+    builder.end(begun);
+    Ok(RStat::Repeat(made, e))
+}
+
+/// The block of `else`, if there is one, after the branches of an `if`.
+#[cycle(lower)]
+fn last_branch(
+    alloc: Global,
+    found: &Bindings,
+    builder: &mut Builder,
+    otherwise: Option<Block>,
+    all: Row<RBranch>,
+) -> Result<RStat, AllocError>
+    ensures { Makes (spec.last_branch found.now all
+        (option_map (spec.block_of found.now) otherwise) builder.old) result builder.new }
+{
+    match otherwise {
+        Some(b) => {
+            let made = nested(alloc, found, builder, b)?;
+            Ok(RStat::If(all, Some(made)))
+        }
+        None => Ok(RStat::If(all, None)),
+    }
+}
+
+/// The body of a loop over numbers whose start, limit and step are built.
+#[cycle(lower)]
+fn number_body(
+    alloc: Global,
+    found: &Bindings,
+    builder: &mut Builder,
+    b: Block,
+    from: Boxed<RExpr>,
+    to: Boxed<RExpr>,
+    by: Option<Boxed<RExpr>>,
+) -> Result<RStat, AllocError>
+    ensures { Makes (spec.number_body found.now from to by (spec.block_of found.now b)
+        builder.old) result builder.new }
+{
+    let (r, made) = counted(alloc, found, builder, b)?;
+    Ok(RStat::ForNum(r, from, to, by, made))
+}
+
+/// The body of a loop over the values of an iterator.
+#[cycle(lower)]
+fn iterator_body(
+    alloc: Global,
+    found: &Bindings,
+    builder: &mut Builder,
+    b: Block,
+    names: Row<(Bytes, Place)>,
+    values: Row<RExpr>,
+) -> Result<RStat, AllocError>
+    ensures { Makes (spec.iterator_body found.now names values (spec.block_of found.now b)
+        builder.old) result builder.new }
+{
+    let begun = builder.begin();
+    let refs = variables(alloc, found, builder, names.as_slice())?;
+    let made = block(alloc, found, builder, b, false)?;
+    builder.end(begun);
+    Ok(RStat::ForIn(refs, values, made))
+}
+
+fn goto(
+    alloc: Global,
+    builder: &mut Builder,
+    name: Bytes,
+    place: Place,
+) -> Result<RStat, AllocError>
+    ensures { Makes (spec.jump_made name place builder.old) result builder.new }
+{
+    let jump = builder.jump(name, place)?;
+    Ok(RStat::Goto(Boxed::new(alloc, jump)?))
 }
 
 #[cycle(lower)]
@@ -386,48 +576,30 @@ fn stat(
     builder: &mut Builder,
     s: Stat,
 ) -> Result<RStat, AllocError>
-    ensures { Makes (spec.stat_of found.now s builder.old) result builder.new }
+    ensures { Makes ((spec.stat_of found.now s).what builder.old) result builder.new }
 {
     match s {
-        Stat::Local(names, values) => {
-            let values = exprs(alloc, found, builder, values)?;
-            let refs = locals(alloc, found, builder, names.as_slice())?;
-            Ok(RStat::Local(refs, values))
-        }
+        Stat::Local(names, values) => local(alloc, found, builder, values, names),
         Stat::Assign(targets, values) => {
             let targets = exprs(alloc, found, builder, targets)?;
             let values = exprs(alloc, found, builder, values)?;
             Ok(RStat::Assign(targets, values))
         }
-        Stat::Call(e) => {
-            let e = expr(alloc, found, builder, e)?;
-            Ok(RStat::Call(e))
-        }
-        Stat::Do(b) => {
-            let made = nested(alloc, found, builder, b)?;
-            Ok(RStat::Do(made))
-        }
+        Stat::Call(e) => expr(alloc, found, builder, e).map(RStat::Call),
+        Stat::Do(b) => nested(alloc, found, builder, b).map(RStat::Do),
         Stat::While(e, b) => {
             let e = expr(alloc, found, builder, e)?;
-            let made = nested(alloc, found, builder, b)?;
-            Ok(RStat::While(e, made))
+            while_body(alloc, found, builder, b, Kept::new(e))
         }
         Stat::Repeat(b, e) => {
-            let opened = builder.begin();
-            let made = stats(alloc, found, builder, b)?;
-            let e = expr(alloc, found, builder, e)?;
-            builder.end(opened);
-            Ok(RStat::Repeat(made, e))
+            let e = Kept::new(e);
+            let begun = builder.begin();
+            let made = block(alloc, found, builder, b, true)?;
+            until(alloc, found, builder, e.into_inner(), begun, made)
         }
         Stat::If(all, otherwise) => {
             let all = branches(alloc, found, builder, all)?;
-            match otherwise {
-                Some(b) => {
-                    let made = nested(alloc, found, builder, b)?;
-                    Ok(RStat::If(all, Some(made)))
-                }
-                None => Ok(RStat::If(all, None)),
-            }
+            last_branch(alloc, found, builder, otherwise, all)
         }
         Stat::ForNum(_, _, from, to, by, b) => {
             let from = boxed(alloc, found, builder, from)?;
@@ -435,33 +607,20 @@ fn stat(
             match by {
                 Some(by) => {
                     let by = boxed(alloc, found, builder, by)?;
-                    let (r, made) = counted(alloc, found, builder, b)?;
-                    Ok(RStat::ForNum(r, from, to, Some(by), made))
+                    number_body(alloc, found, builder, b, from, to, Some(by))
                 }
-                None => {
-                    let (r, made) = counted(alloc, found, builder, b)?;
-                    Ok(RStat::ForNum(r, from, to, None, made))
-                }
+                None => number_body(alloc, found, builder, b, from, to, None),
             }
         }
         Stat::ForIn(names, values, b) => {
             let values = exprs(alloc, found, builder, values)?;
-            let opened = builder.begin();
-            let refs = variables(alloc, found, builder, names.as_slice())?;
-            let made = stats(alloc, found, builder, b)?;
-            builder.end(opened);
-            Ok(RStat::ForIn(refs, values, made))
+            iterator_body(alloc, found, builder, b, names, values)
         }
-        Stat::LocalFunction(_, _, function) => {
-            let r = builder.declare(found)?;
-            let number = body(alloc, found, builder, function)?;
-            Ok(RStat::LocalFunction(r, number))
-        }
-        Stat::Return(values) => {
-            let values = exprs(alloc, found, builder, values)?;
-            Ok(RStat::Return(values))
-        }
+        Stat::LocalFunction(_, _, function) => { local_function(alloc, found, builder, function) }
+        Stat::Return(values) => exprs(alloc, found, builder, values).map(RStat::Return),
         Stat::Break(place) => Ok(RStat::Break(place)),
+        Stat::Goto(name, place) => goto(alloc, builder, name, place),
+        Stat::Label(name, place) => { Boxed::new(alloc, Spot { name, place }).map(RStat::Label) }
     }
 }
 
@@ -473,10 +632,10 @@ fn main_body(
 ) -> Result<u32, AllocError>
     ensures { Makes (spec.main_of found.now tree builder.old) result builder.new }
 {
-    let opened = builder.enter(alloc)?;
-    let made = stats(alloc, found, builder, tree.block)?;
+    let begun = builder.enter(alloc)?;
+    let made = block(alloc, found, builder, tree.block, false)?;
     let cells = Row::new(alloc);
-    finished(alloc, found, builder, opened, cells, true, made, 0)
+    finished(alloc, found, builder, begun, cells, true, made, 1)
 }
 
 /// The program of a script of this name, in whose tree the walk before has found no broken rule.

@@ -35,7 +35,8 @@ impl Texts {
         }
     }
 
-    /// The place of a text, which is added last where it is new. A place of more than 32 bits is answered as want of memory.
+    /// The place of a text, which is added last where it is new. A place of more than 32 bits is
+    /// answered as want of memory.
     pub fn place(&mut self, text: &Bytes) -> Result<u32, AllocError>
         ensures place { IfOk result (λ place. place ≡ number_of self.old text.now) }
         ensures texts { OnOk result (self.new ≡ named self.old text.now) }

@@ -4,8 +4,6 @@
 mod list;
 mod place;
 mod sign;
-#[cfg(test)]
-mod tests;
 mod token;
 mod word;
 

@@ -1,5 +1,5 @@
 //! A list of tokens.
-ghost use Rattle.std.specs.Prelude.{◌≡◌, [], ◌∷◌, ◌++◌, OnOk};
+ghost use Rattle.std.specs.Prelude.{◌≡◌, [], ◌∷◌, ◌++◌, OnErr, OnOk};
 
 use crate::token::Token;
 use std::alloc::{AllocError, Global};
@@ -45,20 +45,27 @@ impl TokenList {
     /// Begins a new block, if the last one is full.
     #[tactic(auto, using(crate::proofs::Joined::block_rules))]
     fn make_room(&mut self) -> Result<(), AllocError>
-        ensures { OnOk result (self.new ≡ self.old) }
+        ensures { self.new ≡ self.old }
     {
-        if self.last.len() >= BLOCK {
-            let next = Vec::with_capacity(self.alloc, BLOCK)?;
-            let full = std::mem::replace(&mut self.last, next);
-            self.blocks.push_back(full)?;
+        if self.last.len() < BLOCK {
+            return Ok(());
         }
-        Ok(())
+        let next = Vec::with_capacity(self.alloc, BLOCK)?;
+        let full = std::mem::replace(&mut self.last, next);
+        match self.blocks.push_back(full) {
+            Ok(()) => Ok(()),
+            Err(refused) => {
+                self.last = refused.value;
+                Err(AllocError)
+            }
+        }
     }
 
-    /// Puts the token last. At a refusal tokens may be lost.
+    /// Puts the token last. A refusal leaves the list as it is.
     #[tactic(auto, using(crate::proofs::Joined::block_rules))]
     pub fn push(&mut self, token: Token) -> Result<(), AllocError>
-        ensures { OnOk result (self.new ≡ self.old ++ token ∷ []) }
+        ensures pushed { OnOk result (self.new ≡ self.old ++ token ∷ []) }
+        ensures refused { OnErr result (self.new ≡ self.old) }
     {
         self.make_room()?;
         self.last.push(token)?;

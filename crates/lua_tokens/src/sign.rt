@@ -1,7 +1,7 @@
 //! Operators and punctuation.
 
-/// The other tokens of Lua (manual, section 3.1): `+ - * / % ^ # & ~ | << >> // == ~= <= >= < > = ( ) { } [ ] :: ; : , .
-/// .. ...`, in this order.
+/// The other tokens of Lua (manual, section 3.1): `+ - * / % ^ # & ~ | << >> // == ~= <= >= < > = (
+/// ) { } [ ] :: ; : , . .. ...`, in this order.
 #[derive(Clone, Copy, Debug, PartialEq, Eq)]
 pub enum Sign {
     Plus,

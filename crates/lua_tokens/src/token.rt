@@ -6,9 +6,9 @@ use crate::sign::Sign;
 use crate::word::Word;
 use lanes_arena::Bytes;
 
-/// What a token is. A text has its escapes and its line ends already turned into bytes, and `End` stands behind the last
-/// byte of a script.
-#[derive(Debug, Drop, PartialEq, Eq)]
+/// What a token is. A text has its escapes and its line ends already turned into bytes, and `End`
+/// stands after the last byte of a script.
+#[derive(Drop, PartialEq, Eq)]
 pub enum Lexeme {
     Name(Bytes),
     Int(i64),
@@ -19,7 +19,7 @@ pub enum Lexeme {
 }
 
 impl Lexeme {
-    /// Whether this stands behind the last byte of a script.
+    /// Whether this stands after the last byte of a script.
     pub fn is_end(&self) -> bool
         ensures { IsTrue result ↔ (self.now ≡ Lexeme.End) }
     {
@@ -28,7 +28,7 @@ impl Lexeme {
 }
 
 /// A token, with the place of its first byte.
-#[derive(Debug, Drop, PartialEq, Eq)]
+#[derive(Drop, PartialEq, Eq)]
 pub struct Token {
     pub what: Lexeme,
     pub place: Place,

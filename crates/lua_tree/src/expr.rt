@@ -6,19 +6,21 @@ use lanes_arena::{Bytes, Row};
 use lua_tokens::Place;
 use sqlite_items::Boxed;
 
-/// An expression (manual, section 3.4). The line is that of its operator, which of an index is its `.` or `[`; of a call that of
-/// the parenthesis, brace or text with which its arguments begin; of a function that of its word `function`; of any other that
-/// of its first token. An index written with `:` in a `function` statement has the line of that `:`.
+/// An expression (manual, section 3.4). The line is that of its operator, which of an index is its
+/// `.` or `[`; of a call that of the parenthesis, brace or text with which its arguments begin; of
+/// a function that of its word `function`; of any other that of its first token. An index written
+/// with `:` in a `function` statement has the line of that `:`.
 #[cycle(tree)]
-#[derive(Debug, Drop)]
+#[derive(Drop)]
 pub struct Expr {
     pub what: ExprKind,
     pub line: u32,
 }
 
-/// What an expression is. A name after a dot, and one that stands for a key of a table, is a `Text`.
+/// What an expression is. A name after a dot, and one that stands for a key of a table, is a
+/// `Text`.
 #[cycle(tree)]
-#[derive(Debug, Drop)]
+#[derive(Drop)]
 pub enum ExprKind {
     Nil,
     True,
@@ -44,9 +46,10 @@ pub enum ExprKind {
     Table(Row<Field>),
 }
 
-/// The two parts of an expression, which share a box. What is rare lies in boxes of its own, so that an expression has 40 bytes.
+/// The two parts of an expression, which share a box. What is rare lies in boxes of its own, so
+/// that an expression has 40 bytes.
 #[cycle(tree)]
-#[derive(Debug, Drop)]
+#[derive(Drop)]
 pub struct Pair {
     pub left: Expr,
     pub right: Expr,
@@ -54,7 +57,7 @@ pub struct Pair {
 
 /// A field of a table constructor (manual, section 3.4.9).
 #[cycle(tree)]
-#[derive(Debug, Drop)]
+#[derive(Drop)]
 pub enum Field {
     Item(Expr),
     /// `name = value`

@@ -1,8 +1,8 @@
 //! Operators.
 ghost use Rattle.std.specs.Prelude.{◌≡◌, ◌↔◌, IsTrue};
 
-/// The binary operators (manual, section 3.4), but for `and` and `or`, from those that bind least to those that bind most:
-/// `< > <= >= ~= ==`, `|`, `~`, `&`, `<< >>`, `..`, `+ -`, `* // %`.
+/// The binary operators (manual, section 3.4), but for `and` and `or`, from those that bind least
+/// to those that bind most: `< > <= >= ~= ==`, `|`, `~`, `&`, `<< >>`, `..`, `+ -`, `* // %`.
 #[derive(Clone, Copy, Debug, PartialEq, Eq)]
 pub enum Binary {
     Lt,

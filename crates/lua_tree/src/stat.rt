@@ -6,30 +6,31 @@ use lua_tokens::Place;
 use sqlite_items::Boxed;
 
 /// A script: its main block (manual, section 3.3.2).
-#[derive(Debug, Drop)]
+#[derive(Drop)]
 pub struct Tree {
     pub block: Block,
 }
 
 /// A list of statements (manual, section 3.3.1). An empty statement is left out.
 #[cycle(tree)]
-#[derive(Debug, Drop)]
+#[derive(Drop)]
 pub struct Block {
     pub stats: Row<Stat>,
 }
 
 /// A condition of an `if` statement and the block that it guards (manual, section 3.3.4).
 #[cycle(tree)]
-#[derive(Debug, Drop)]
+#[derive(Drop)]
 pub struct Branch {
     pub condition: Expr,
     pub block: Block,
 }
 
-/// What a function does (manual, section 3.4.11): its parameters, its block, whether `...` is the last parameter, and the line of
-/// its word `function`. A function that is declared with a `:` has a first parameter `self`, at the place of the method's name.
+/// What a function does (manual, section 3.4.11): its parameters, its block, whether `...` is the
+/// last parameter, and the line of its word `function`. A function that is declared with a `:` has
+/// a first parameter `self`, at the place of the method's name.
 #[cycle(tree)]
-#[derive(Debug, Drop)]
+#[derive(Drop)]
 pub struct Body {
     pub params: Row<(Bytes, Place)>,
     pub block: Block,
@@ -37,9 +38,10 @@ pub struct Body {
     pub line: u32,
 }
 
-/// A statement (manual, sections 3.3 and 3.4.11). The place beside a declared name is that of its token.
+/// A statement (manual, sections 3.3 and 3.4.11). The place beside a name is that of the name's
+/// token.
 #[cycle(tree)]
-#[derive(Debug, Drop)]
+#[derive(Drop)]
 pub enum Stat {
     /// The names, each with whether it is `<const>`, and their values.
     Local(Row<(Bytes, bool, Place)>, Row<Expr>),
@@ -58,4 +60,7 @@ pub enum Stat {
     LocalFunction(Bytes, Place, Body),
     Return(Row<Expr>),
     Break(Place),
+    /// The label's name.
+    Goto(Bytes, Place),
+    Label(Bytes, Place),
 }

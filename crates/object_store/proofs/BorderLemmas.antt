@@ -1,12 +1,12 @@
 -- The border_of of a list of pairs.
-use Rattle.std.proofs.Common.{◌≡◌, ◌≢◌, ◌∙◌, ℕ, zero, suc, ◌+◌, ◌<◌, ◌≤◌, ◌⊎◌, inl, inr, pos, Bool, true, false, cond, if◌then◌else◌, List, [], ◌∷◌, length, Option, None, Some, is_some, refl, ap, sym, subst, arith, true≢false, below_more}
+use Rattle.std.proofs.Common.{◌≡◌, ◌≢◌, ◌∙◌, ℕ, ℤ, zero, suc, ◌+◌, ◌<◌, ◌≤◌, ◌⊎◌, inl, inr, pos, Bool, true, false, cond, if◌then◌else◌, List, [], ◌∷◌, length, Option, None, Some, is_some, refl, ap, sym, subst, arith, true≢false, below_more}
 use Rattle.std.proofs.Math.Nat.{eq-or-lt_of_le}
 use Rattle.std.specs.Map.{lookup, remove_entry}
 use Rattle.std.specs.Option.{unwrap_or}
 use Rattle.object_store.specs.declared.value.Value.{Value}
-use Rattle.object_store.specs.declared.value.Value.TheVariants.{Nil, Bool as Boolean, Int, Str, Table, Lib, Linda, Light, Func, Lane}
+use Rattle.object_store.specs.declared.value.Value.TheVariants.{Nil, False, True, Int, Str, Table, Lib, Linda, Light, Func, Lane}
 use Rattle.object_store.specs.Value.{value_eq, is_nil}
-use Rattle.object_store.specs.Pairs.{get_pair, IsFullTo, IsBorder, border_from, border_of}
+use Rattle.object_store.specs.Pairs.{get_pair, IsFullTo, IsBorder, IsBorderAt, border_from, border_of}
 use Rattle.object_store.proofs.ValueLemmas.{value_eq-Decides}
 
 -- the k-th integer key, from 0
@@ -19,7 +19,8 @@ not_true false h = refl
 
 pub nil_from_is_nil : (v : Value) → is_nil v ≡ true → v ≡ Nil
 nil_from_is_nil Nil h = refl
-nil_from_is_nil (Boolean _) h = absurd (true≢false (sym h))
+nil_from_is_nil False h = absurd (true≢false (sym h))
+nil_from_is_nil True h = absurd (true≢false (sym h))
 nil_from_is_nil (Int _) h = absurd (true≢false (sym h))
 nil_from_is_nil (Str _) h = absurd (true≢false (sym h))
 nil_from_is_nil (Table _) h = absurd (true≢false (sym h))
@@ -158,3 +159,7 @@ border_from_holds es (suc fuel) m full all = by (is_nil (get_pair es (nth m))) r
 -- and it is one
 pub border_holds : (es : List (Value × Value)) → IsBorder es (border_of es)
 border_holds es = border_from_holds es (length es) 0 (λ k h. absurd (omega (arith, h))) (omega arith)
+
+-- the integer that `Table::border` answers
+pub border_at_is : (es : List (Value × Value)) (at : ℤ) → IsBorderAt es at → at ≡ pos (border_of es)
+border_at_is es at held = held.is_number ∙ ap pos (border_is es held.number held.is_border)

@@ -1,13 +1,15 @@
 -- What keeps a state closed.
-use Rattle.std.proofs.Common.{◌≡◌, ℕ, ◌<◌, ◌≤◌, List, [], ◌∷◌, ◌++◌, length, All, Option, None, Some, IfSome, slice_set, sym, subst, arith, length-append}
-use Rattle.std.proofs.lemmas.List.Elements.{All-push, All-set}
+use Rattle.std.proofs.Common.{◌≡◌, ℕ, ◌<◌, ◌≤◌, List, [], ◌∷◌, ◌++◌, length, All, Option, None, Some, IfSome, slice_get, slice_set, ap, sym, subst, arith, length-append}
+use Rattle.std.proofs.lemmas.List.Elements.{All-push, All-set, All-append}
 use Rattle.std.proofs.lemmas.List.{length-set}
+use Rattle.std.proofs.lemmas.Option.{slice_get_within, get_or_from_slice_get}
+use Rattle.std.specs.Option.{option_map}
 use Rattle.object_store.specs.declared.value.Value.{Value}
-use Rattle.object_store.specs.declared.value.Value.TheVariants.{Nil, Bool as Boolean, Int, Str, Table, Func, Lib, Linda, Lane, Light}
+use Rattle.object_store.specs.declared.value.Value.TheVariants.{Nil, False, True, Int, Str, Table, Func, Lib, Linda, Lane, Light}
 use Rattle.object_store.specs.declared.state.Function.{Function}
 use Rattle.object_store.specs.declared.state.Cell.{Cell}
 use Rattle.object_store.specs.Value.{TableId}
-use Rattle.object_store.specs.Table.{Contents}
+use Rattle.object_store.specs.Table.{Contents, TableShown, contents_of}
 use Rattle.object_store.specs.Heap.{Heap, Shown, with_table, with_cell}
 use Rattle.object_store.specs.Closed.{Bounds, bounds_of, IsWithin, IsPairWithin, IsTableWithin, IsFunctionWithin, IsCellWithin, IsHeapWithin, IsClosed, BelongsTable, BelongsFunction, BelongsCell}
 
@@ -24,7 +26,8 @@ All_then P Q xs step h = λ k d lt. step _ (h k d lt)
 module _ (a b : Bounds) (more : IsRaised a b) where
   pub IsWithin-raised : (v : Value) → IsWithin a v → IsWithin b v
   IsWithin-raised Nil h = tt
-  IsWithin-raised (Boolean _) h = tt
+  IsWithin-raised False h = tt
+  IsWithin-raised True h = tt
   IsWithin-raised (Int _) h = tt
   IsWithin-raised (Str id) h = omega (arith, more.texts, h)
   IsWithin-raised (Table id) h = omega (arith, more.tables, h)
@@ -138,3 +141,43 @@ IsClosed-with_cell s number c closed fits =
       string_meta = kept.string_meta;
       lanes_table = kept.lanes_table;
     }
+
+-- an object of a closed state belongs to it
+pub All-at : {A : Type 0} (P : A → Type 0) (xs : List A) (n : ℕ) (x : A) → All P xs → slice_get xs n ≡ Some x → P x
+All-at P xs n x all at = subst P (get_or_from_slice_get xs n x x at) (all n x (slice_get_within xs n x at))
+
+pub BelongsTable-at : (s : Shown) (n : ℕ) (t : Contents) → IsClosed s → slice_get s.heap.tables n ≡ Some t → BelongsTable s t
+BelongsTable-at s n t closed = All-at (BelongsTable s) s.heap.tables n t closed.tables
+
+pub BelongsFunction-at : (s : Shown) (n : ℕ) (f : Function) → IsClosed s → slice_get s.heap.functions n ≡ Some f → BelongsFunction s f
+BelongsFunction-at s n f closed = All-at (BelongsFunction s) s.heap.functions n f closed.functions
+
+pub BelongsCell-at : (s : Shown) (n : ℕ) (c : Cell) → IsClosed s → slice_get s.heap.cells n ≡ Some c → BelongsCell s c
+BelongsCell-at s n c closed = All-at (BelongsCell s) s.heap.cells n c closed.cells
+
+pub BelongsTable-found : (s : Shown) (n : ℕ) (r : Option TableShown) → IsClosed s → option_map contents_of r ≡ slice_get s.heap.tables n → IfSome r (λ t. BelongsTable s (contents_of t))
+BelongsTable-found s n None closed at = tt
+BelongsTable-found s n (Some t) closed at = BelongsTable-at s n (contents_of t) closed (sym at)
+
+-- objects that name one another may be added one after the other: the state is closed again once the last of them is there
+pub IsClosed-added : (old new : Shown) (tables : List Contents) (functions : List Function) (cells : List Cell) → IsClosed old → new.texts ≡ old.texts
+    → new.heap ≡ record (old.heap) { tables = old.heap.tables ++ tables; functions = old.heap.functions ++ functions; cells = old.heap.cells ++ cells }
+    → All (IsTableWithin (bounds_of new)) tables → All (IsFunctionWithin (bounds_of new)) functions → All (IsCellWithin (bounds_of new)) cells → IsClosed new
+IsClosed-added old new tables functions cells closed texts heap tables_fit functions_fit cells_fit =
+    let heap_now : Heap = record (old.heap) { tables = old.heap.tables ++ tables; functions = old.heap.functions ++ functions; cells = old.heap.cells ++ cells } in
+    let bounds : Bounds = bounds_of new in
+    let more : IsRaised (bounds_of old) bounds = record {
+      tables = omega (arith, ap (λ h. length h.tables) heap, length-append old.heap.tables tables);
+      functions = omega (arith, ap (λ h. length h.functions) heap, length-append old.heap.functions functions);
+      cells = omega (arith, ap (λ h. length h.cells) heap, length-append old.heap.cells cells);
+      texts = omega (arith, ap (λ (l : List (List ℕ)). length l) texts);
+    } in
+    let kept : IsHeapWithin bounds old.heap = IsHeapWithin-raised (bounds_of old) bounds more old.heap closed in
+    let fits : IsHeapWithin bounds heap_now = record {
+      tables = All-append (IsTableWithin bounds) old.heap.tables tables kept.tables tables_fit;
+      functions = All-append (IsFunctionWithin bounds) old.heap.functions functions kept.functions functions_fit;
+      cells = All-append (IsCellWithin bounds) old.heap.cells cells kept.cells cells_fit;
+      string_meta = kept.string_meta;
+      lanes_table = kept.lanes_table;
+    } in
+    subst (IsHeapWithin bounds) (sym heap) fits

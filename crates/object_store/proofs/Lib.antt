@@ -1,6 +1,11 @@
+pub mod BelongLemmas
 pub mod BorderLemmas
+pub mod CallerLemmas
 pub mod ClosedLemmas
+pub mod EventLemmas
 pub mod PairLemmas
+pub mod PlainLemmas
+pub mod RoomLemmas
 pub mod RunLemmas
 pub mod SetLemmas
 pub mod ValueLemmas

@@ -11,7 +11,7 @@ use Rattle.std.proofs.lemmas.Option.{none-some, slice_get_within, get_or_from_sl
 use Rattle.std.proofs.Math.Seq.{drop-cons}
 use Rattle.indexmap.specs.IndexMap.{insert_entry}
 use Rattle.object_store.specs.declared.value.Value.{Value}
-use Rattle.object_store.specs.declared.value.Value.TheVariants.{Nil, Bool as Boolean, Int, Str, Table, Lib, Linda, Light, Func, Lane}
+use Rattle.object_store.specs.declared.value.Value.TheVariants.{Nil, False, True, Int, Str, Table, Lib, Linda, Light, Func, Lane}
 use Rattle.object_store.specs.Value.{value_eq, is_nil}
 use Rattle.object_store.specs.Pairs.{get_pair, set_pair, next_pair, has_pair, purged, is_live, live_count, dead_count, first_live, rest_after}
 use Rattle.object_store.proofs.ValueLemmas.{value_eq-laws}
@@ -90,7 +90,8 @@ set_pair-new es k v h n = set_pair-absent es k v h ∙ ap (λ b. if b then es el
 unwrap-live : (r : Option Value) → unwrap_or (option_filter (λ w. not (is_nil w)) r) Nil ≡ unwrap_or r Nil
 unwrap-live None = refl
 unwrap-live (Some Nil) = refl
-unwrap-live (Some (Boolean _)) = refl
+unwrap-live (Some False) = refl
+unwrap-live (Some True) = refl
 unwrap-live (Some (Int _)) = refl
 unwrap-live (Some (Str _)) = refl
 unwrap-live (Some (Table _)) = refl
@@ -219,7 +220,7 @@ same_length es fs key v made = ap length made ∙ length-set_value (value_eq key
 
 module _ (es : List (Value × Value)) (key o : Value) (n : ℕ) (counted : n ≡ dead_count es) (there : Some o ≡ lookup (value_eq key) es) where
   pub dead_there : is_nil o ≡ true → 0 < n
-  dead_there was = omega (arith, counted, dead_count-set_value (value_eq key) es o (Boolean true) (sym there), ap {B = ℕ} (λ b. cond b 1 0) was)
+  dead_there was = omega (arith, counted, dead_count-set_value (value_eq key) es o True (sym there), ap {B = ℕ} (λ b. cond b 1 0) was)
 
   pub recounted_is : (fs : List (Value × Value)) (v : Value) (m : ℕ) → fs ≡ set_value (value_eq key) es v → m + (if is_nil o then 1 else 0) ≡ n + (if is_nil v then 1 else 0) → m ≡ dead_count fs
   recounted_is fs v m made sum = omega (arith, counted, sum, dead_count-set_value (value_eq key) es o v (sym there), ap dead_count made)

@@ -5,19 +5,19 @@ use Rattle.object_store.specs.declared.value.Value.{Value}
 use Rattle.object_store.specs.declared.value.Value.TheVariants.{Nil, Int}
 use Rattle.std.specs.Option.{unwrap_or}
 use Rattle.std.proofs.lemmas.Option.{slice_get-get_or, slice_get_within, get_or_from_slice_get, none-some}
-use Rattle.std.proofs.lemmas.List.{append-nil}
+use Rattle.std.proofs.lemmas.List.{append-nil, length-map}
+use Rattle.std.proofs.lemmas.List.Quantifiers.{position-Some}
 use Rattle.std.proofs.Math.Seq.{drop-cons}
-use Rattle.std.specs.List.{IsDistinct, position_or_len}
+use Rattle.std.specs.List.{IsDistinct, AllByRecursion, position_or_len}
 use Rattle.std.proofs.lemmas.Map.Keys.{IsDistinct-tail}
 use Rattle.std.proofs.lemmas.Map.Made.{IsDistinct-keys_filter}
 use borrow.Author.Tests.{ltb-false}
 use Rattle.std.proofs.lemmas.List.Sums.{prefix_len-le-length}
-use Rattle.indexmap.specs.IndexMap.{insert_entry}
-use Rattle.indexmap.proofs.MapLemmas.{absent_before}
+use Rattle.indexmap.proofs.MapLemmas.{absent_before, some_index}
 use Rattle.object_store.specs.Pairs.{get_pair, is_live, rest_after}
 use Rattle.object_store.specs.Value.{value_eq, is_nil}
 use Rattle.object_store.proofs.ValueLemmas.{value_eq-Decides, value_eq-laws}
-use Rattle.object_store.proofs.PairLemmas.{has_pair-filter, insert_entry-absent, rest_after-place, place_is}
+use Rattle.object_store.proofs.PairLemmas.{has_pair-filter, rest_after-place, place_is}
 use Rattle.object_store.proofs.BorderLemmas.{nth-injective, other_key}
 use Rattle.object_store.specs.Run.{numbered}
 
@@ -167,9 +167,12 @@ push_last vs [] key v none at =
     ∙ ap (λ k. numbered 0 vs ++ (k, v) ∷ []) (sym at) ∙ ap (λ l. l ++ (key, v) ∷ []) (sym (append-nil (numbered 0 vs)))
 push_last vs (e ∷ es) key v none at = absurd (omega (arith, none))
 
-pub insert_last : (vs : List Value) (es fs : List (Value × Value)) (key v : Value) → lookup (value_eq key) (numbered 0 vs ++ es) ≡ None → fs ≡ insert_entry value_eq es key v → numbered 0 vs ++ fs ≡ (numbered 0 vs ++ es) ++ (key, v) ∷ []
-insert_last vs es fs key v none made =
-    ap (λ l. numbered 0 vs ++ l) (made ∙ insert_entry-absent key v es (lookup-right (value_eq key) (numbered 0 vs) es none))
+pub absent_later : (vs : List Value) (es : List (Value × Value)) (key : Value) → lookup (value_eq key) (numbered 0 vs ++ es) ≡ None → lookup (value_eq key) es ≡ None
+absent_later vs es key = lookup-right (value_eq key) (numbered 0 vs) es
+
+pub add_last : (vs : List Value) (es fs : List (Value × Value)) (key v : Value) → fs ≡ es ++ (key, v) ∷ [] → numbered 0 vs ++ fs ≡ (numbered 0 vs ++ es) ++ (key, v) ∷ []
+add_last vs es fs key v made =
+    ap (λ l. numbered 0 vs ++ l) made
     ∙ sym (append_assoc (numbered 0 vs) es ((key, v) ∷ []))
 
 -- the purge keeps the run up to its first dead value
@@ -195,6 +198,16 @@ filter-kept (v ∷ vs) es i = by (is_nil v) refl (filter-kept vs es (i + 1))
         ap (λ m. numbered i (take m (v ∷ vs)) ++ filter is_live (drop m ((nth i, v) ∷ (numbered (i + 1) vs ++ es)))) (one_more_than (position_or_len is_nil vs))
         ∙ ap (λ l. (nth i, v) ∷ l) rest
 
+-- the keys of a front are distinct
+all_front : (P : Value → Type 0) (xs ys : List (Value × Value)) → AllByRecursion P (keys_of (xs ++ ys)) → AllByRecursion P (keys_of xs)
+all_front P [] ys h = tt
+all_front P (x ∷ xs) ys h = (h.0, all_front P xs ys h.1)
+
+pub distinct-front : (xs ys : List (Value × Value)) → IsDistinct value_eq (keys_of (xs ++ ys)) → IsDistinct value_eq (keys_of xs)
+unfolding IsDistinct
+distinct-front [] ys h = tt
+distinct-front (x ∷ xs) ys h = (all_front (λ k. value_eq x.0 k ≡ false) xs ys h.0, distinct-front xs ys h.1)
+
 -- one step of a copy of the live pairs from a place on
 module _ (es : List (Value × Value)) (i : ℕ) (p : Value × Value) (here : slice_get es i ≡ Some p) where
   from_here : drop i es ≡ p ∷ drop (i + 1) es
@@ -210,12 +223,21 @@ module _ (es : List (Value × Value)) (i : ℕ) (p : Value × Value) (here : sli
     pub copy_skips : is_nil p.1 ≡ true → live ++ filter is_live (drop (i + 1) es) ≡ all
     copy_skips dead = sym (ap (λ l. live ++ l) (filter-from true dead)) ∙ so_far
 
-    pub copy_takes : IsDistinct value_eq (keys_of all) → is_nil p.1 ≡ false → (more : List (Value × Value)) → more ≡ insert_entry value_eq live p.0 p.1 → more ++ filter is_live (drop (i + 1) es) ≡ all
-    copy_takes distinct alive more made =
-        let split : live ++ p ∷ filter is_live (drop (i + 1) es) ≡ all = sym (ap (λ l. live ++ l) (filter-from false alive)) ∙ so_far in
-        let absent : lookup (value_eq p.0) live ≡ None = absent_before value_eq-laws live (filter is_live (drop (i + 1) es)) p (subst (λ l. IsDistinct value_eq (keys_of l)) (sym split) distinct) in
-        ap (λ l. l ++ filter is_live (drop (i + 1) es)) (made ∙ insert_entry-absent p.0 p.1 live absent)
-        ∙ append_assoc live (p ∷ []) (filter is_live (drop (i + 1) es)) ∙ split
+    module _ (distinct : IsDistinct value_eq (keys_of all)) (alive : is_nil p.1 ≡ false) where
+      split : live ++ p ∷ filter is_live (drop (i + 1) es) ≡ all
+      split = sym (ap (λ l. live ++ l) (filter-from false alive)) ∙ so_far
+
+      split_distinct : IsDistinct value_eq (keys_of (live ++ p ∷ filter is_live (drop (i + 1) es)))
+      split_distinct = subst (λ l. IsDistinct value_eq (keys_of l)) (sym split) distinct
+
+      pub copy_absent : lookup (value_eq p.0) live ≡ None
+      copy_absent = absent_before value_eq-laws live (filter is_live (drop (i + 1) es)) p split_distinct
+
+      pub copy_distinct : IsDistinct value_eq (keys_of live)
+      copy_distinct = distinct-front live (p ∷ filter is_live (drop (i + 1) es)) split_distinct
+
+      pub copy_takes : (more : List (Value × Value)) → more ≡ live ++ p ∷ [] → more ++ filter is_live (drop (i + 1) es) ≡ all
+      copy_takes more made = ap (λ l. l ++ filter is_live (drop (i + 1) es)) made ∙ append_assoc live (p ∷ []) (filter is_live (drop (i + 1) es)) ∙ split
 
 distinct-drop : (n : ℕ) (es : List (Value × Value)) → IsDistinct value_eq (keys_of es) → IsDistinct value_eq (keys_of (drop n es))
 distinct-drop zero es h = h
@@ -224,6 +246,9 @@ distinct-drop (suc n) (e ∷ es) h = distinct-drop n es (IsDistinct-tail value_e
 
 pub distinct-live : (n : ℕ) (es : List (Value × Value)) → IsDistinct value_eq (keys_of es) → IsDistinct value_eq (keys_of (filter is_live (drop n es)))
 distinct-live n es h = IsDistinct-keys_filter value_eq is_live (drop n es) (distinct-drop n es h)
+
+pub distinct-later : (vs : List Value) (es : List (Value × Value)) → IsDistinct value_eq (keys_of (numbered 0 vs ++ es)) → IsDistinct value_eq (keys_of es)
+distinct-later vs es h = subst (λ l. IsDistinct value_eq (keys_of l)) (drop-past_run vs es 0 0 (length vs) (omega arith)) (distinct-drop (length vs) (numbered 0 vs ++ es) h)
 
 none-drop : (t : Value → Bool) (n : ℕ) (es : List (Value × Value)) → lookup t es ≡ None → lookup t (drop n es) ≡ None
 none-drop t zero es h = h
@@ -234,16 +259,18 @@ none-drop t (suc n) (e ∷ es) h = by (t e.0) h (none-drop t n es)
     by true j rest = absurd (none-some _ (sym j))
     by false j rest = rest j
 
+-- a key without a pair has none among the live ones from a place on
+pub absent_live : (vs : List Value) (es : List (Value × Value)) (key : Value) (n : ℕ) → lookup (value_eq key) (numbered 0 vs ++ es) ≡ None → lookup (value_eq key) (filter is_live (drop n (numbered 0 vs ++ es))) ≡ None
+absent_live vs es key n none = none_from_not_some _ (has_pair-filter key (drop n (numbered 0 vs ++ es)) (ap is_some (none-drop (value_eq key) n (numbered 0 vs ++ es) none)))
+
 -- the run up to its first dead value, the other live pairs and the new one are the purged list with the new pair
 pub purged_last : (vs us : List Value) (es live fs : List (Value × Value)) (key v : Value) (n : ℕ)
-    → n ≡ position_or_len is_nil vs → us ≡ take n vs → lookup (value_eq key) (numbered 0 vs ++ es) ≡ None
-    → live ≡ filter is_live (drop n (numbered 0 vs ++ es)) → fs ≡ insert_entry value_eq live key v
+    → n ≡ position_or_len is_nil vs → us ≡ take n vs
+    → live ≡ filter is_live (drop n (numbered 0 vs ++ es)) → fs ≡ live ++ (key, v) ∷ []
     → numbered 0 us ++ fs ≡ filter is_live (numbered 0 vs ++ es) ++ (key, v) ∷ []
-purged_last vs us es live fs key v n at kept none copied made =
-    let gone : lookup (value_eq key) (filter is_live (drop n (numbered 0 vs ++ es))) ≡ None =
-    none_from_not_some _ (has_pair-filter key (drop n (numbered 0 vs ++ es)) (ap is_some (none-drop (value_eq key) n (numbered 0 vs ++ es) none))) in
+purged_last vs us es live fs key v n at kept copied made =
     ap (λ l. numbered 0 l ++ fs) kept
-    ∙ ap (λ l. numbered 0 (take n vs) ++ l) (made ∙ ap (λ l. insert_entry value_eq l key v) copied ∙ insert_entry-absent key v (filter is_live (drop n (numbered 0 vs ++ es))) gone)
+    ∙ ap (λ l. numbered 0 (take n vs) ++ l) (made ∙ ap (λ l. l ++ (key, v) ∷ []) copied)
     ∙ sym (append_assoc (numbered 0 (take n vs)) (filter is_live (drop n (numbered 0 vs ++ es))) ((key, v) ∷ []))
     ∙ ap (λ l. l ++ (key, v) ∷ []) (ap (λ m. numbered 0 (take m vs) ++ filter is_live (drop m (numbered 0 vs ++ es))) at ∙ filter-kept vs es 0)
 
@@ -257,9 +284,9 @@ pub copy_ends : (es : List (Value × Value)) (i : ℕ) (live all : List (Value �
 copy_ends es i live all so_far past = sym (append-nil live) ∙ ap (λ l. live ++ filter is_live l) (sym (drop_past es i past)) ∙ so_far
 
 -- the place of a key that the map has
-pub place_later : (vs : List Value) (es : List (Value × Value)) (key : Value) (i : ℕ) → Some i ≡ position (value_eq key) (keys_of es) → true ≡ is_some (lookup (value_eq key) es) → rest_after key es ≡ Some (drop (length vs + i + 1) (numbered 0 vs ++ es))
-place_later vs es key i at there =
-    rest_after-place key es (sym there) ∙ ap (λ n. Some (drop (n + 1) es)) (place_is (value_eq key) (keys_of es) i at)
+pub place_later : (vs : List Value) (es : List (Value × Value)) (key : Value) (i : ℕ) → Some i ≡ position (value_eq key) (keys_of es) → rest_after key es ≡ Some (drop (length vs + i + 1) (numbered 0 vs ++ es))
+place_later vs es key i at =
+    rest_after-place key es (sym (some_index (value_eq key) es) ∙ ap is_some (sym at)) ∙ ap (λ n. Some (drop (n + 1) es)) (place_is (value_eq key) (keys_of es) i at)
     ∙ ap Some (sym (drop-past_run vs es 0 (i + 1) (length vs + i + 1) (omega arith)))
 
 pub on_some : {A : Type 0} (r : Option A) (P Q : Type 0) → (P → Q) → OnSome r P → OnSome r Q
@@ -271,3 +298,9 @@ joined_same vs us es fs run rest = λ j. numbered 0 (run j) ++ rest j
 
 pub prefix_le : (vs : List Value) (n : ℕ) → n ≡ position_or_len is_nil vs → n ≤ length vs
 prefix_le vs n at = let most : position_or_len is_nil vs ≤ length vs = prefix_len-le-length (λ v. not (is_nil v)) vs in omega (arith, at, most)
+
+pub none_later : (es : List (Value × Value)) (key : Value) → None ≡ position (value_eq key) (keys_of es) → is_some (lookup (value_eq key) es) ≡ false
+none_later es key at = sym (some_index (value_eq key) es) ∙ ap is_some (sym at)
+
+pub place_within : (vs : List Value) (es : List (Value × Value)) (key : Value) (i : ℕ) → Some i ≡ position (value_eq key) (keys_of es) → i < length es
+place_within vs es key i at = omega (arith, (position-Some (value_eq key) (keys_of es) i key (sym at)).0, length-map es (λ (e : Value × Value). e.0))

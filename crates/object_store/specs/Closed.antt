@@ -1,5 +1,5 @@
--- A state is closed where each id in its tables, functions and cells, its string metatable and its lanes table belongs to
--- it: there is an object, or a text, of that number.
+-- A state is closed where each id in its tables, functions and cells, its string metatable and its
+-- lanes table belongs to it: there is an object, or a text, of that number.
 use Rattle.std.specs.Prelude.{ℕ, ◌<◌, length, All, IfSome}
 use Rattle.object_store.specs.declared.value.Value.{Value}
 use Rattle.object_store.specs.declared.value.Value.TheVariants.{Str, Table, Func}

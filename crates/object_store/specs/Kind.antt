@@ -1,13 +1,14 @@
 -- The types of values (Lua 5.4 manual, sections 2.1 and 6.1, `type`).
 use Rattle.std.specs.Prelude.{ℕ, List, codes}
 use Rattle.object_store.specs.declared.value.Value.{Value}
-use Rattle.object_store.specs.declared.value.Value.TheVariants.{Nil, Bool, Int, Str, Table, Func, Lib, Linda, Lane, Light}
+use Rattle.object_store.specs.declared.value.Value.TheVariants.{Nil, False, True, Int, Str, Table, Func, Lib, Linda, Lane, Light}
 use Rattle.object_store.specs.declared.kind.Kind.{Kind}
 use Rattle.object_store.specs.declared.kind.Kind.TheVariants as kind
 
 abbrev pub kind_of : Value → Kind
 kind_of Nil = kind.Nil
-kind_of (Bool _) = kind.Boolean
+kind_of False = kind.Boolean
+kind_of True = kind.Boolean
 kind_of (Int _) = kind.Number
 kind_of (Str _) = kind.Text
 kind_of (Table _) = kind.Table

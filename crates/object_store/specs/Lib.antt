@@ -1,9 +1,12 @@
 pub mod Closed
+pub mod Event
 pub mod Fault
+pub mod FaultText
 pub mod Heap
 pub mod Kind
 pub mod LendsObject
 pub mod Pairs
+pub mod Plain
 pub mod Run
 pub mod Table
 pub mod Value

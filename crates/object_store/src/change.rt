@@ -1,19 +1,20 @@
 //! The changes of a table's pairs, with the count of its dead pairs.
-ghost use Rattle.std.specs.Prelude.{◌≡◌, ◌+◌, ◌^◌, ◌<◌, ◌≤◌, true, false, length, if◌then◌else◌, None, IfOk, OnErr, OnOk, MatchResult};
+ghost use Rattle.std.specs.Prelude.{◌≡◌, ◌+◌, ◌^◌, ◌<◌, ◌≤◌, true, false, length, if◌then◌else◌, None, IsOk, IfOk, OnErr, OnOk, MatchResult};
 ghost use Rattle.std.specs.List.{IsDistinct};
 ghost use Rattle.std.specs.Map.{keys_of};
 ghost use Rattle.object_store.specs.Pairs.{set_pair, has_pair, dead_count};
 ghost use Rattle.object_store.specs.Run.{joined};
+ghost use Rattle.object_store.specs.Table.{table_room};
 ghost use Rattle.object_store.specs.Value.{value_eq, is_nil};
 
 use crate::Value;
 use crate::pairs::{add, replace};
 use crate::purge::purge_and_add;
-use indexmap::IndexMap;
+use small_map::SmallMap;
 use std::alloc::AllocError;
 
 /// The most pairs that a table may have, more than any memory holds.
-const MOST_PAIRS: usize = 1 << 62;
+pub const MOST_PAIRS: usize = 1 << 62;
 
 /// The count of dead pairs, from the count before, once a value stands in the place of another.
 #[inline]
@@ -33,13 +34,15 @@ fn recounted(dead: usize, old: Value, value: Value) -> usize
 #[inline]
 pub fn clear(
     run: &mut Vec<Value>,
-    rest: &mut IndexMap<Value, Value>,
+    rest: &mut SmallMap<Value, Value>,
     dead: usize,
     key: Value,
 ) -> usize
     requires counted { dead ≡ dead_count (joined run.old.items rest.old.entries) }
     requires few { length (joined run.old.items rest.old.entries) ≤ 2 ^ 62 }
-    ensures pairs { joined run.new.items rest.new.entries ≡ set_pair (joined run.old.items rest.old.entries) key Value.Nil }
+    ensures pairs { joined run.new.items rest.new.entries
+        ≡ set_pair (joined run.old.items rest.old.entries) key
+        Value.Nil }
     ensures dead { result ≡ dead_count (joined run.new.items rest.new.entries) }
     ensures few { length (joined run.new.items rest.new.entries) ≤ 2 ^ 62 }
 {
@@ -53,7 +56,7 @@ pub fn clear(
 #[inline]
 pub fn store(
     run: &mut Vec<Value>,
-    rest: &mut IndexMap<Value, Value>,
+    rest: &mut SmallMap<Value, Value>,
     dead: usize,
     key: Value,
     value: Value,
@@ -62,11 +65,19 @@ pub fn store(
     requires counted { dead ≡ dead_count (joined run.old.items rest.old.entries) }
     requires few { length (joined run.old.items rest.old.entries) ≤ 2 ^ 62 }
     requires distinct { IsDistinct value_eq (keys_of (joined run.old.items rest.old.entries)) }
-    ensures pairs { OnOk result (joined run.new.items rest.new.entries ≡ set_pair (joined run.old.items rest.old.entries) key value) }
+    ensures pairs { OnOk result (joined run.new.items rest.new.entries
+        ≡ set_pair (joined run.old.items rest.old.entries) key value) }
     ensures dead { IfOk result (λ n. n ≡ dead_count (joined run.new.items rest.new.entries)) }
     ensures few { OnOk result (length (joined run.new.items rest.new.entries) ≤ 2 ^ 62) }
     ensures err_run { OnErr result (run.new.items ≡ run.old.items) }
     ensures err_rest { OnErr result (rest.new.entries ≡ rest.old.entries) }
+    ensures succeeds { 0 < table_room dead (length (joined run.old.items rest.old.entries))
+        rest.old.room
+        → IsOk result }
+    ensures room { IfOk result (λ n. table_room dead (length (joined run.old.items
+        rest.old.entries))
+        rest.old.room ≤ table_room n (length (joined run.new.items rest.new.entries))
+        rest.new.room + 1) }
     ensures absent { OnErr result (has_pair (joined run.old.items rest.old.entries) key ≡ false) }
 {
     if let Some(old) = replace(run, rest, key, value) {

@@ -6,7 +6,7 @@ use crate::Value;
 use std::fmt;
 
 /// The type of a value (Lua 5.4 manual, section 2.1).
-#[derive(Clone, Copy, Debug, PartialEq, Eq, Hash)]
+#[derive(Clone, Copy, Debug, PartialEq, Eq)]
 pub enum Kind {
     Nil,
     Boolean,
@@ -48,7 +48,7 @@ impl Value {
     {
         match self {
             Value::Nil => Kind::Nil,
-            Value::Bool(_) => Kind::Boolean,
+            Value::False | Value::True => Kind::Boolean,
             Value::Int(_) => Kind::Number,
             Value::Str(_) => Kind::Text,
             Value::Table(_) => Kind::Table,

@@ -3,7 +3,9 @@
 
 mod border;
 mod change;
+mod event;
 mod fault;
+mod fault_text;
 mod kind;
 mod pairs;
 mod purge;
@@ -11,11 +13,9 @@ mod state;
 mod table;
 mod value;
 
+pub use event::Event;
 pub use fault::LuaFault;
 pub use kind::Kind;
 pub use state::{Cell, Function, State};
 pub use table::{DeadKey, SetFault, Table};
-pub use value::{CellId, Cells, FuncId, Functions, StrId, TableId, Tables, Value};
-
-#[cfg(test)]
-mod tests;
+pub use value::{CellId, Cells, FuncId, Functions, LibId, LightId, StrId, TableId, Tables, Value};

@@ -1,13 +1,15 @@
 //! Tables.
-ghost use Rattle.std.specs.Prelude.{◌≡◌, ◌≢◌, ◌↔◌, if◌then◌else◌, true, IsOk, pos, [], None, Some, IfOk, IsErr, OnErr, OnOk};
+ghost use Rattle.std.specs.Prelude.{◌≡◌, ◌≢◌, ◌↔◌, ◌+◌, ◌<◌, ◌≤◌, length, slice_get, if◌then◌else◌, true, IsOk, pos, [], None, Some, IfOk, IsErr, OnErr, OnOk};
 ghost use Rattle.object_store.specs.Value.{value_eq};
-ghost use Rattle.object_store.specs.Pairs.{get_pair, set_pair, has_pair, next_pair, border_of, IsTable};
+ghost use Rattle.object_store.specs.Pairs.{get_pair, set_pair, has_pair, next_pair, IsBorderAt, dead_count, live_count, IsTable};
+ghost use Rattle.object_store.specs.Table.{contents_of};
 
 use crate::border::{lowered, raised};
-use crate::change::{clear, store};
-use crate::pairs::{live_from, place_of, value_of};
+use crate::change::{MOST_PAIRS, clear, store};
+use crate::pairs::{live_from, pair_at, place_of, value_of};
 use crate::value::{TableId, Value};
-use indexmap::IndexMap;
+use lanes_arena::Memory;
+use small_map::SmallMap;
 use std::alloc::Global;
 use std::marker::Model;
 
@@ -24,24 +26,31 @@ pub enum SetFault {
 #[derive(Clone, Copy, Debug, PartialEq, Eq)]
 pub struct DeadKey;
 
-/// A table. Contracts see the list of its pairs of a key and a value, in the order in which the keys were first set, and
-/// its metatable. A pair whose value is `Nil` is dead and keeps its place until it is revived or purged.
+/// A table. Contracts see the list of its pairs of a key and a value, in the order in which the
+/// keys were first set, and its metatable. A pair whose value is `Nil` is dead and keeps its place
+/// until it is revived or purged.
 #[derive(Drop)]
 pub struct Table {
     run: Vec<Value>,
-    rest: IndexMap<Value, Value>,
+    rest: SmallMap<Value, Value>,
     dead: usize,
     border: u64,
     meta: Option<TableId>,
 }
 
 impl Model for Table {
+    ghost use Rattle.std.specs.Prelude.{length};
     ghost use Rattle.object_store.specs.Run.{joined};
-    ghost use Rattle.object_store.specs.Table.{Contents, IsKept};
+    ghost use Rattle.object_store.specs.Table.{TableShown, table_room, IsKept};
 
-    ghost Value = { Contents };
+    ghost Value = { TableShown };
 
-    ghost view = { λ t. record { pairs = joined t.run.items t.rest.entries; meta = t.meta } };
+    ghost view = { λ t. record {
+      pairs = joined t.run.items t.rest.entries;
+      meta = t.meta;
+      room = table_room
+          t.dead (length (joined t.run.items t.rest.entries)) t.rest.room;
+    } };
 
     ghost invariant = { λ t. IsKept (joined t.run.items t.rest.entries) t.dead t.border };
 }
@@ -54,7 +63,7 @@ impl Table {
     {
         Table {
             run: Vec::new(alloc),
-            rest: IndexMap::new(alloc),
+            rest: SmallMap::new(alloc),
             dead: 0,
             border: 0,
             meta: None,
@@ -71,16 +80,20 @@ impl Table {
         value_of(&self.run, &self.rest, key)
     }
 
-    /// Sets the value of a key; `Nil` makes its pair dead. A new key goes last, once the dead pairs are purged where they
-    /// outnumber the live ones.
+    /// Sets the value of a key; `Nil` makes its pair dead. A new key goes last, once the dead pairs
+    /// are purged where they outnumber the live ones.
     pub fn set(&mut self, key: Value, value: Value) -> Result<(), SetFault>
         ensures pairs { OnOk result (self.new.pairs ≡ set_pair self.old.pairs key value) }
-        ensures reads { OnOk result ((q : Value) → get_pair self.new.pairs q ≡ (if value_eq key q then value else get_pair self.old.pairs q)) }
+        ensures reads { OnOk result ((q : Value) → get_pair self.new.pairs q
+            ≡ (if value_eq key q then value else get_pair self.old.pairs q)) }
         ensures meta { self.new.meta ≡ self.old.meta }
         ensures nil_key { (result ≡ Err SetFault.NilKey) ↔ (key ≡ Value.Nil) }
-        ensures err { OnErr result (self.new ≡ self.old) }
+        ensures err { OnErr result (contents_of self.new ≡ contents_of self.old) }
 
-        // Only a new key can want memory.
+        // Only a new key can want memory, and none does under room. Room is used up one by one, and
+        // lost only by `Nil`.
+        ensures succeeds { 0 < self.old.room → key ≢ Value.Nil → IsOk result }
+        ensures room { OnOk result (value ≢ Value.Nil → self.old.room ≤ self.new.room + 1) }
         ensures present { key ≢ Value.Nil → has_pair self.old.pairs key ≡ true → IsOk result }
         ensures cleared { value ≡ Value.Nil → key ≢ Value.Nil → IsOk result }
     {
@@ -102,7 +115,44 @@ impl Table {
         }
     }
 
-    /// The first live pair after the key's, or the first of all for `Nil`. A key without a pair is refused.
+    /// Makes room for `n` new keys: as many calls of `set` with further keys and values that are
+    /// not `Nil` can't be refused for memory. Where the dead pairs outnumber the live ones, the
+    /// next new key takes memory all the same.
+    pub fn reserve(&mut self, n: usize) -> Result<(), Memory>
+        ensures contents { contents_of self.new ≡ contents_of self.old }
+        ensures ok { OnOk result (dead_count self.old.pairs ≤ live_count self.old.pairs
+            → n ≤ self.new.room) }
+    {
+        let all = self.run.len() + self.rest.len();
+        let _dead = self.dead;
+        if n > MOST_PAIRS - all {
+            return Err(Memory);
+        }
+        self.rest.reserve(n)
+    }
+
+    /// How many pairs there are, live or dead.
+    #[inline]
+    pub fn len(&self) -> usize
+        ensures { result ≡ length self.now.pairs }
+    {
+        self.run.len() + self.rest.len()
+    }
+
+    /// The pair at a place of the list, counted from 0, live or dead. It takes no look-up of a key.
+    #[inline]
+    pub fn pair(&self, i: usize) -> Option<(Value, Value)>
+        ensures { result ≡ slice_get self.now.pairs i }
+    {
+        if i < self.len() {
+            Some(pair_at(&self.run, &self.rest, i))
+        } else {
+            None
+        }
+    }
+
+    /// The first live pair after the key's, or the first of all for `Nil`. A key without a pair is
+    /// refused.
     pub fn next(&self, key: Value) -> Result<Option<(Value, Value)>, DeadKey>
         ensures pair { IfOk result (λ pair. next_pair self.now.pairs key ≡ Some pair) }
         ensures dead_key { IsErr result ↔ (next_pair self.now.pairs key ≡ None) }
@@ -116,10 +166,11 @@ impl Table {
         }
     }
 
-    /// The least number, 0 or more, such that the integer after it has no value. It is kept, and not searched.
+    /// The least number, 0 or more, such that the integer after it has no value. It is kept, and
+    /// not searched.
     #[inline]
     pub fn border(&self) -> i64
-        ensures { result ≡ pos (border_of self.now.pairs) }
+        ensures { IsBorderAt self.now.pairs result }
     {
         self.border as i64
     }

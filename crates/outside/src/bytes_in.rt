@@ -26,16 +26,22 @@ impl Model for BytesIn {
 
     ghost Value = { Supply };
 
-    ghost view = { λ s. record { left = drop s.at s.bytes.items; fails = s.fails.items; calls = s.calls; faults = s.faults } };
+    ghost view = { λ s. record {
+      left = drop s.at s.bytes.items;
+      fails = s.fails.items;
+      calls = s.calls;
+      faults = s.faults;
+    } };
 
     ghost invariant = { λ s. s.at ≤ length s.bytes.items };
 }
 
 impl BytesIn {
-    /// A source of these bytes. It gives at most 4,096 bytes a call, and the calls whose numbers, from 1, are in `fails`
-    /// are faults.
+    /// A source of these bytes. It gives at most 4,096 bytes a call, and the calls whose numbers,
+    /// from 1, are in `fails` are faults.
     pub fn new(bytes: Vec<u8>, fails: Vec<u64>) -> BytesIn
-        ensures { result ≡ record { left = bytes.items; fails = fails.items; calls = 0; faults = 0 } }
+        ensures { result
+            ≡ record { left = bytes.items; fails = fails.items; calls = 0; faults = 0 } }
     {
         BytesIn {
             bytes,
@@ -59,7 +65,8 @@ impl Source for BytesIn {
         ensures bytes { ReadConsumes (Some self.old.left) (Some self.new.left) result into.new }
         ensures cause { HasCause self.old.faults self.new.faults result }
         ensures listed { IsErr result ↔ Contains self.old.fails (one_more self.old.calls) }
-        ensures count { IfOk result (λ n. n ≡ min (min (length self.old.left) (length into.old)) 4096) }
+        ensures count { IfOk result
+            (λ n. n ≡ min (min (length self.old.left) (length into.old)) 4096) }
         ensures calls { self.new.calls ≡ one_more self.old.calls }
         ensures fails { self.new.fails ≡ self.old.fails }
     {

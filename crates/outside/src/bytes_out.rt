@@ -22,12 +22,17 @@ impl Model for BytesOut {
 
     ghost Value = { Store };
 
-    ghost view = { λ s. record { taken = s.bytes.items; fails = s.fails.items; calls = s.calls; faults = s.faults } };
+    ghost view = { λ s. record {
+      taken = s.bytes.items;
+      fails = s.fails.items;
+      calls = s.calls;
+      faults = s.faults;
+    } };
 }
 
 impl BytesOut {
-    /// A sink that has taken nothing. It takes each piece whole, but that the calls whose numbers, from 1, are in `fails`,
-    /// and a call that finds no memory for its piece, are faults.
+    /// A sink that has taken nothing. It takes each piece whole, but that the calls whose numbers,
+    /// from 1, are in `fails`, and a call that finds no memory for its piece, are faults.
     pub fn new(alloc: Global, fails: Vec<u64>) -> BytesOut
         ensures { result ≡ record { taken = []; fails = fails.items; calls = 0; faults = 0 } }
     {

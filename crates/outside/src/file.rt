@@ -1,4 +1,5 @@
-//! The trusted edge: a source over any reader of std, and a sink over any writer. A real file tells no content.
+//! The trusted edge: a source over any reader of std, and a sink over any writer. A real file tells
+//! no content.
 
 ghost use Rattle.std.specs.Prelude.{◌≡◌};
 

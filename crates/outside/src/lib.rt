@@ -1,5 +1,5 @@
-//! What a program reads from and writes to: traits that count their faults, parts in memory for tests and embedders, and
-//! adapters over std's readers and writers.
+//! What a program reads from and writes to: traits that count their faults, parts in memory for
+//! tests and embedders, and adapters over std's readers and writers.
 #![tactic(auto)]
 
 mod bytes_in;

@@ -20,8 +20,8 @@ pub trait Sink {
     /// How many writes have failed so far. The count never falls, and ends at 2^64 - 1.
     ghost faults: { Self → ℕ };
 
-    /// Takes the first bytes of the piece, at least one, and answers how many. A fault comes exactly where the count of
-    /// faults rises, and takes nothing.
+    /// Takes the first bytes of the piece, at least one, and answers how many. A fault comes
+    /// exactly where the count of faults rises, and takes nothing.
     fn write(&mut self, piece: &[u8]) -> Result<usize, WriteFault>
         requires { 0 < length piece.now }
         ensures bound { WritesAtMost result piece.now }

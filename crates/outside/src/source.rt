@@ -20,8 +20,8 @@ pub trait Source {
     /// How many reads have failed so far. The count never falls, and ends at 2^64 - 1.
     ghost faults: { Self → ℕ };
 
-    /// Moves the first bytes that are left into the slice, and answers how many. 0 is the end of the bytes. A fault comes
-    /// exactly where the count of faults rises, and moves nothing.
+    /// Moves the first bytes that are left into the slice, and answers how many. 0 is the end of
+    /// the bytes. A fault comes exactly where the count of faults rises, and moves nothing.
     fn read(&mut self, into: &mut [u8]) -> Result<usize, ReadFault>
         requires { 0 < length into.old }
         ensures bound { ReadsAtMost result into.new }

@@ -1,5 +1,5 @@
 //! The loops, and what came of them.
-use object_store::{State, Table, Value};
+use object_store::{SetFault, State, Table, Value};
 use std::alloc::Global;
 
 /// What came of the loops.
@@ -10,6 +10,8 @@ pub struct Counts {
     pub met: u64,
     pub removed: i64,
     pub found: u64,
+    pub named: i64,
+    pub listed: i64,
 }
 
 /// Appends the integers 1 to `n`, and answers how many had room.
@@ -77,10 +79,59 @@ fn text_reads(alloc: Global, n: i64) -> u64 {
         return 0;
     };
     let mut table = Table::new(alloc);
-    if table.set(name, Value::Bool(true)).is_err() {
+    if table.set(name, Value::True).is_err() {
         return 0;
     }
     reads(&table, name, n)
+}
+
+/// A table `{x = 1, y = 2}`, or `{1, 2}`.
+fn small_table(alloc: Global, keys: [Value; 2], room: usize) -> Result<Table, SetFault> {
+    let mut table = Table::new(alloc);
+    if table.reserve(room).is_err() {
+        return Err(SetFault::Memory);
+    }
+    table.set(keys[0], Value::Int(1))?;
+    table.set(keys[1], Value::Int(2))?;
+    Ok(table)
+}
+
+/// Makes `n` small tables with these keys in a state, and answers how many had room.
+fn small_tables(state: &mut State, alloc: Global, keys: [Value; 2], room: usize, n: i64) -> i64 {
+    for i in 0..n {
+        if state.reserve(1, 0, 0).is_err() {
+            return i;
+        }
+        match small_table(alloc, keys, room) {
+            Ok(table) => {
+                state.add_table(table);
+            }
+            Err(_) => return i,
+        }
+    }
+    n
+}
+
+/// The tables `{x = 1, y = 2}`.
+fn named_tables(alloc: Global, n: i64) -> i64 {
+    let Ok(mut state) = State::new(alloc, 1) else {
+        return 0;
+    };
+    let Ok(x) = state.intern(b"x") else {
+        return 0;
+    };
+    let Ok(y) = state.intern(b"y") else {
+        return 0;
+    };
+    small_tables(&mut state, alloc, [x, y], 2, n)
+}
+
+/// The tables `{1, 2}`.
+fn listed_tables(alloc: Global, n: i64) -> i64 {
+    let Ok(mut state) = State::new(alloc, 1) else {
+        return 0;
+    };
+    small_tables(&mut state, alloc, [Value::Int(1), Value::Int(2)], 0, n)
 }
 
 /// What comes of the first `loops` loops of `n` calls each.
@@ -91,11 +142,19 @@ pub fn run_loops(alloc: Global, n: i64, loops: u32) -> Counts {
     let met = if loops > 2 { walk(&table) } else { 0 };
     let removed = if loops > 3 { remove(&mut table, n) } else { 0 };
     let found = if loops > 4 { text_reads(alloc, n) } else { 0 };
+    let named = if loops > 5 { named_tables(alloc, n) } else { 0 };
+    let listed = if loops > 6 {
+        listed_tables(alloc, n)
+    } else {
+        0
+    };
     Counts {
         appended,
         sum,
         met,
         removed,
         found,
+        named,
+        listed,
     }
 }

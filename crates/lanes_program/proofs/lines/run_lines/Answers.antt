@@ -2,7 +2,7 @@ use Rattle.std.proofs.Common.{◌<◌, length, refl, sym, ◌∙◌, subst, true
 use Rattle.std.specs.Io.KnownBytes.{Appends}
 use Rattle.lanes_program.specs.Writing.{AppendsPart}
 use Rattle.linda_core.specs.Holding.{content}
-use Rattle.lanes_program.proofs.RunLemmas.{starts, fits_here, goes_on, stops, ends, count_stays}
+use Rattle.lanes_program.proofs.RunLemmas.{starts, fits_here, goes_on, stops, ends, count_stays, part_printed}
 use Rattle.lanes_program.proofs.lines.run_lines.Goals as goal
 
 pub loop-line-init : goal.loop-line-init
@@ -28,3 +28,6 @@ returns-in_err-write_text-clause-part g c = λ _.
 
 pub returns-clause-done : goal.returns-clause-done
 returns-clause-done g c = λ _. ends c.args.lines.now c.loop-line.line-index (content c.loop-line.linda) (g.O.Sink.taken c.args.output.now) (g.O.Sink.taken c.loop-line.output) c.loop-line.calls.items c.loop-line-test.false c.loop-line.invariant.0
+
+pub returns-in_err-text-clause-memory : goal.returns-in_err-text-clause-memory
+returns-in_err-text-clause-memory g c = λ _. part_printed c.args.lines.now c.loop-line.line-index (g.O.Sink.taken c.args.output.now) (g.O.Sink.taken c.loop-line.output) c.loop-line.invariant.0.printed

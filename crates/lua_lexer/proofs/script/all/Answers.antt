@@ -49,7 +49,7 @@ returns-then-last c =
     omega (arith, p, c.loop-found.invariant.lines, c.line_ends.ensures.count, ap line_ends c.split_at.ensures.front, gap_lines c.loop-found.left.now c.gap-here.result.now g) in
     let t = goes_last c.args.script.now c.loop-found.found (record { what = c.in_ok-what.what; place = record { at = length c.args.script.now - length c.gap-here.result.now; line = c.loop-found.line + c.line_ends.result } })
     c.loop-found.left.now c.gap-here.result.now c.in_ok-what.rest.now c.loop-found.invariant.goes g c.in_ok-what.ensures (finish_seen c.in_ok-what.what true c.if-last.ensures) refl n in
-    subst (λ z. Lexes c.args.script.now (marks z)) (sym c.in_ok-push.ensures) t
+    subst (λ z. Lexes c.args.script.now (marks z)) (sym c.in_ok-push.ensures.pushed) t
 
 pub loop-found-smaller : goal.loop-found-smaller
 loop-found-smaller c =
@@ -64,7 +64,7 @@ loop-found-preserved c =
     let t = goes_more c.args.script.now c.loop-found.found (record { what = c.in_ok-what.what; place = record { at = length c.args.script.now - length c.gap-here.result.now; line = c.loop-found.line + c.line_ends.result } })
     c.loop-found.left.now c.gap-here.result.now c.in_ok-what.rest.now c.loop-found.invariant.goes g c.in_ok-what.ensures (finish_seen c.in_ok-what.what false c.if-last.ensures) refl n in
     record {
-      goes = subst (λ z. Goes c.args.script.now z c.in_ok-what.rest.now) (sym c.in_ok-push.ensures) t;
+      goes = subst (λ z. Goes c.args.script.now z c.in_ok-what.rest.now) (sym c.in_ok-push.ensures.pushed) t;
       stops = stops_more c.args.script.now c.loop-found.left.now c.gap-here.result.now c.in_ok-what.rest.now (lex c.in_ok-what.what) c.loop-found.invariant.stops g c.in_ok-what.ensures (finish_seen c.in_ok-what.what false c.if-last.ensures);
       lines = omega (arith, c.lines.ensures, c.loop-found.invariant.lines, c.line_ends.ensures.count, ap line_ends c.split_at.ensures.front, gap_lines c.loop-found.left.now c.gap-here.result.now g);
       suffix = suffix_trans c.args.script.now c.gap-here.result.now c.in_ok-what.rest.now

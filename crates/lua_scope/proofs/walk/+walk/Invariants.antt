@@ -1,5 +1,5 @@
 use Rattle.std.proofs.Common.{◌≡◌, map, drop}
-use Rattle.lua_scope.specs.Walk.{each, each_of, in_expr, in_field, in_stat, in_branch}
+use Rattle.lua_scope.specs.Walk.{each, in_expr, in_field, in_stat, in_branch}
 use Rattle.lua_scope.specs.Rules as rules
 use Rattle.lua_scope.specs.Rules.{scope_of}
 use Rattle.lua_scope.proofs.walk.+walk.Given as goal
@@ -12,7 +12,7 @@ invariant-branches-loop-branch l =
 
 abbrev pub invariant-exprs-loop-e : goal.invariant-exprs-loop-e
 invariant-exprs-loop-e l =
-    (each_of l.are_targets (map in_expr (drop l.e-index l.all)) l.survey ≡ each_of l.are_targets (map in_expr l.all) l.initial.survey)
+    (each (map in_expr (drop l.e-index l.all)) l.survey ≡ each (map in_expr l.all) l.initial.survey)
     × (rules.each_of l.are_targets (map rules.expr_faults (drop l.e-index l.all)) (scope_of l.initial.survey) ≡ rules.each_of l.are_targets (map rules.expr_faults l.all) (scope_of l.initial.survey))
     × (scope_of l.survey ≡ scope_of l.initial.survey)
 
@@ -24,6 +24,6 @@ invariant-fields-loop-field l =
 
 abbrev pub invariant-stats-loop-s : goal.invariant-stats-loop-s
 invariant-stats-loop-s l =
-    (each (map in_stat (drop l.s-index l.all)) l.survey ≡ each (map in_stat l.all) l.initial.survey)
-    × ((rules.stats (map rules.stat_part (drop l.s-index l.all))).faults (scope_of l.survey) ≡ (rules.stats (map rules.stat_part l.all)).faults (scope_of l.initial.survey))
-    × (rules.with_names (rules.stats (map rules.stat_part (drop l.s-index l.all))).locals (scope_of l.survey) ≡ rules.with_names (rules.stats (map rules.stat_part l.all)).locals (scope_of l.initial.survey))
+    (each (map (λ x. x.what) (map in_stat (drop l.s-index l.all))) l.survey ≡ each (map (λ x. x.what) (map in_stat l.all)) l.initial.survey)
+    × ((rules.stats (map (λ x. x.what) (map rules.stat_part (drop l.s-index l.all)))).faults (scope_of l.survey) ≡ (rules.stats (map (λ x. x.what) (map rules.stat_part l.all))).faults (scope_of l.initial.survey))
+    × ((rules.stats (map (λ x. x.what) (map rules.stat_part (drop l.s-index l.all)))).after (scope_of l.survey) ≡ (rules.stats (map (λ x. x.what) (map rules.stat_part l.all))).after (scope_of l.initial.survey))

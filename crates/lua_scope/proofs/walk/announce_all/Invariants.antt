@@ -1,5 +1,4 @@
 use Rattle.std.proofs.Common.{◌≡◌, drop}
-use Rattle.lua_scope.specs.Walk.{all_announced}
 use Rattle.lua_scope.specs.Rules.{scope_of, all_declared}
 use Rattle.lua_scope.proofs.walk.announce_all.Given as goal
 
@@ -7,5 +6,4 @@ abbrev pub invariant-loop-name : goal.invariant-loop-name
 invariant-loop-name l =
     (l.before ≡ l.name-index)
     × (l.survey ≡ l.initial.survey)
-    × (all_announced l.before (drop l.name-index l.names) l.survey ≡ all_announced 0 l.names l.initial.survey)
     × (all_declared l.before (drop l.name-index l.names) (scope_of l.survey) ≡ all_declared 0 l.names (scope_of l.initial.survey))

@@ -1,9 +1,10 @@
-use Rattle.std.proofs.Common.{◌≡◌, ◌∙◌, ◌+◌, ◌++◌, ◌∷◌, [], List, length, ap, arith, filter}
+use Rattle.std.proofs.Common.{◌≡◌, ◌∙◌, ℕ, if◌then◌else◌, ◌+◌, ◌++◌, ◌∷◌, [], List, length, ap, arith, filter}
 use Rattle.object_store.specs.declared.value.Value.{Value}
 use Rattle.object_store.specs.Run.{joined}
 use Rattle.object_store.specs.Pairs.{is_live}
 use Rattle.object_store.proofs.PairLemmas.{dead_there, recounted_is, same_length, dead-le-length, added, added_dead, purged_added, purged_added_dead, length-one_more, length-filter_le}
 use Rattle.object_store.proofs.RunLemmas.{length-joined, joined_same}
+use Rattle.object_store.proofs.RoomLemmas.{room_used, room_there, room_due}
 use Rattle.object_store.proofs.change.store.Goals as goal
 
 pub recounted-requires-clause-there : goal.recounted-requires-clause-there
@@ -61,3 +62,29 @@ returns-clause-few c =
     let sized : c.len.result + c.len-2.result ≡ length (joined c.args.run.now.items c.args.rest.now.entries) = omega (arith, ap (λ (l : List (Value × Value)). length l) same, length-joined c.replace.new.run.items c.replace.new.rest.entries, c.len.ensures, c.len-2.ensures.len) in
     let made = c.in_ok-add.ensures.pairs ∙ ap (λ l. l ++ (c.args.key, c.args.value) ∷ []) same in
     omega (arith, sized, length-one_more _ _ _ made, c.if-all-ge-MOST_PAIRS.false)
+
+pub returns-in-Some-clause-room : goal.returns-in-Some-clause-room
+returns-in-Some-clause-room c =
+    room_used c.args.dead (length (joined c.args.run.now.items c.args.rest.now.entries)) c.args.rest.now.room c.recounted.result _ c.replace.new.rest.room
+    (omega (arith, c.recounted.ensures, ap {B = ℕ} (λ b. if b then 1 else 0) c.requires.live))
+    (omega (arith, same_length _ _ c.args.key c.args.value c.in-Some.ensures.present)) (omega (arith, same_length _ _ c.args.key c.args.value c.in-Some.ensures.present)) (omega (arith, c.replace.ensures.room))
+
+pub returns-then-all-ge-MOST_PAIRS-clause-succeeds : goal.returns-then-all-ge-MOST_PAIRS-clause-succeeds
+returns-then-all-ge-MOST_PAIRS-clause-succeeds c = λ h.
+    let same = joined_same _ _ _ _ c.in_default.ensures.absent_run c.in_default.ensures.absent_rest in
+    let sized : c.len.result + c.len-2.result ≡ length (joined c.args.run.now.items c.args.rest.now.entries) = omega (arith, ap (λ (l : List (Value × Value)). length l) same, length-joined c.replace.new.run.items c.replace.new.rest.entries, c.len.ensures, c.len-2.ensures.len) in
+    let few = (room_there c.args.dead _ c.args.rest.now.room h).few in
+    absurd (omega (arith, few, sized, c.if-all-ge-MOST_PAIRS.true))
+
+pub returns-in_err-purge_and_add-clause-succeeds : goal.returns-in_err-purge_and_add-clause-succeeds
+returns-in_err-purge_and_add-clause-succeeds c = λ h.
+    let same = joined_same _ _ _ _ c.in_default.ensures.absent_run c.in_default.ensures.absent_rest in
+    let sized : c.len.result + c.len-2.result ≡ length (joined c.args.run.now.items c.args.rest.now.entries) = omega (arith, ap (λ (l : List (Value × Value)). length l) same, length-joined c.replace.new.run.items c.replace.new.rest.entries, c.len.ensures, c.len-2.ensures.len) in
+    let rest = (room_there c.args.dead _ c.args.rest.now.room h).not_due in
+    absurd (omega (arith, rest, sized, c.if-all-dead.true))
+
+pub returns-then-all-dead-clause-room : goal.returns-then-all-dead-clause-room
+returns-then-all-dead-clause-room c =
+    let same = joined_same _ _ _ _ c.in_default.ensures.absent_run c.in_default.ensures.absent_rest in
+    let sized : c.len.result + c.len-2.result ≡ length (joined c.args.run.now.items c.args.rest.now.entries) = omega (arith, ap (λ (l : List (Value × Value)). length l) same, length-joined c.replace.new.run.items c.replace.new.rest.entries, c.len.ensures, c.len-2.ensures.len) in
+    room_due c.args.dead _ c.args.rest.now.room _ (omega (arith, sized, c.if-all-dead.true))

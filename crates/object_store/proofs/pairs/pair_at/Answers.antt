@@ -1,7 +1,5 @@
 use Rattle.std.proofs.Common.{◌∙◌, ◌+◌, ◌-◌, ◌<◌, ◌^◌, length, ap, sym, arith, rules, w64, Some, slice_index_or}
 use Rattle.std.proofs.lemmas.Int.{to_z_pos}
-use Rattle.std.specs.Option.{option_map}
-use Rattle.std.specs.Map.Iter.{deref_pair}
 use Rattle.object_store.specs.declared.value.Value.TheVariants.{Nil, Int}
 use Rattle.object_store.proofs.RunLemmas.{pair-run, pair-past}
 use Rattle.object_store.proofs.pairs.pair_at.Goals as goal
@@ -15,4 +13,4 @@ returns-then-i-run c =
 pub returns : goal.returns
 returns c =
     pair-past c.args.run.now c.args.rest.now.entries 0 (c.args.i - length c.args.run.now) c.args.i (omega (arith, c.if-i-run.false))
-    ∙ sym c.get_index.ensures.entry ∙ ap (option_map deref_pair) c.unwrap.ensures
+    ∙ sym c.pair.ensures ∙ c.unwrap.ensures

@@ -13,8 +13,8 @@ pub returns-in-Some-clause-present : goal.returns-in-Some-clause-present
 returns-in-Some-clause-present c = set_value-in_run c.args.run.now.items c.args.rest.now.entries c.args.key c.in-Some.i (omega (arith, c.in-Some.ensures.0, c.len.ensures)) c.in-Some.ensures.1 c.args.value
 
 pub returns-clause-old : goal.returns-clause-old
-returns-clause-old c = c.replace_in.ensures.old ∙ lookup-off_run c.args.run.now.items c.args.rest.now.entries c.args.key (λ k h. c.in_default.ensures k (omega (arith, h, c.len.ensures)))
+returns-clause-old c = c.replace.ensures.old ∙ lookup-off_run c.args.run.now.items c.args.rest.now.entries c.args.key (λ k h. c.in_default.ensures k (omega (arith, h, c.len.ensures)))
 
 pub returns-clause-present : goal.returns-clause-present
 returns-clause-present c =
-    on_some c.replace_in.result _ _ (set_value-off_run c.args.run.now.items c.args.rest.now.entries c.args.key (λ k h. c.in_default.ensures k (omega (arith, h, c.len.ensures))) c.args.value c.replace_in.new.rest.entries) c.replace_in.ensures.present
+    on_some c.replace.result _ _ (set_value-off_run c.args.run.now.items c.args.rest.now.entries c.args.key (λ k h. c.in_default.ensures k (omega (arith, h, c.len.ensures))) c.args.value c.replace.new.self.entries) c.replace.ensures.present

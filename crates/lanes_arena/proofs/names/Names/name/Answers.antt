@@ -1,7 +1,7 @@
 use Rattle.std.proofs.Common.{subst}
 use Rattle.std.specs.List.{IsDistinct}
 use Rattle.std.specs.Str.{bytes_eq}
-use Rattle.lanes_arena.proofs.NameLemmas.{number_there, named_there, number_new, named_new, found_is, held_text, held_new, IsDistinct-map}
+use Rattle.lanes_arena.proofs.NameLemmas.{number_there, named_there, number_new, named_new, found_is, held_text, held_new, IsDistinct-map, not_held}
 use Rattle.lanes_arena.proofs.names.Names.name.Goals as goal
 
 pub returns-in-Some-clause-number : goal.returns-in-Some-clause-number
@@ -36,3 +36,9 @@ returns-clause-held c =
 
 pub returns-clause-distinct : goal.returns-clause-distinct
 returns-clause-distinct c = IsDistinct-map (λ t. t.items) c.insert_full.new.self.keys c.in_ok-place.ensures.unique
+
+pub returns-in_err-text-clause-succeeds : goal.returns-in_err-text-clause-succeeds
+returns-in_err-text-clause-succeeds c = λ there. absurd (not_held c.get_index_of.result _ c.in_default.not-Some (found_is (λ t. t.items) c.self.inside.texts.keys _ c.args.text.now _ c.self.view_is c.get_index_of.ensures.index) there)
+
+pub returns-in_err-place-clause-succeeds : goal.returns-in_err-place-clause-succeeds
+returns-in_err-place-clause-succeeds c = λ there. absurd (not_held c.get_index_of.result _ c.in_default.not-Some (found_is (λ t. t.items) c.self.inside.texts.keys _ c.args.text.now _ c.self.view_is c.get_index_of.ensures.index) there)

@@ -1,8 +1,8 @@
-use Rattle.std.proofs.Common.{◌∙◌, ◌<◌, ◌^◌, ap, pos, arith, rules, w64}
+use Rattle.std.proofs.Common.{◌<◌, ◌^◌, subst, arith, rules, w64}
 use Rattle.std.proofs.lemmas.Int.{to_z_pos}
-use Rattle.object_store.specs.Pairs.{border_of}
+use Rattle.object_store.specs.Pairs.{IsBorder}
 use Rattle.object_store.specs.Run.{joined}
-use Rattle.object_store.proofs.BorderLemmas.{border_is, full-le-length}
+use Rattle.object_store.proofs.BorderLemmas.{full-le-length}
 use Rattle.object_store.proofs.table.Table.border.Goals as goal
 
 pub overflow_cast-result : goal.overflow_cast-result
@@ -16,5 +16,4 @@ returns c =
     let pairs = joined c.self.inside.run.items c.self.inside.rest.entries in
     let within = full-le-length c.self.inside.border pairs c.self.invariant.at_border.full in
     let small : c.self.inside.border < 2 ^ 63 = omega (arith, within, c.self.invariant.few) in
-    to_z_pos w64 c.self.inside.border small ∙ ap pos (border_is pairs c.self.inside.border c.self.invariant.at_border)
-    ∙ ap (λ t. pos (border_of t.pairs)) c.self.view_is
+    record { number = c.self.inside.border; is_number = to_z_pos w64 c.self.inside.border small; is_border = subst (λ t. IsBorder t.pairs c.self.inside.border) c.self.view_is c.self.invariant.at_border }

@@ -1,0 +1,5 @@
+//! Tests of `int_ops`.
+#![tactic(auto)]
+
+#[cfg(test)]
+mod answers;

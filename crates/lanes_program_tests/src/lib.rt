@@ -1,0 +1,5 @@
+//! Tests of `lanes_program`.
+#![tactic(auto)]
+
+#[cfg(test)]
+mod runs;

@@ -1,0 +1,5 @@
+//! Tests of `linda_core`.
+#![tactic(auto)]
+
+#[cfg(test)]
+mod calls;

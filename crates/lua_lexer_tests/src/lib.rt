@@ -1,0 +1,5 @@
+//! Tests of `lua_lexer`.
+#![tactic(auto)]
+
+#[cfg(test)]
+mod scripts;

@@ -1,0 +1,5 @@
+pub mod ChainLemmas
+pub mod Examples
+pub mod TableLemmas
+pub mod TargetLemmas
+pub mod TextOrder

@@ -1,0 +1,4 @@
+pub mod Joining
+pub mod Metamethods
+pub mod Setting
+pub mod Turns

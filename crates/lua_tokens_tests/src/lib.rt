@@ -1,0 +1,5 @@
+//! Tests of `lua_tokens`.
+#![tactic(auto)]
+
+#[cfg(test)]
+mod blocks;

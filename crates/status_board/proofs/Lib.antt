@@ -1,0 +1,12 @@
+pub mod Entries
+pub mod WordLemmas
+pub mod Lives
+pub mod Shown
+pub mod LaneSteps
+pub mod Moves
+pub mod Drawing
+pub mod Meeting
+pub mod Opening
+pub mod SeatLemmas
+pub mod Standings
+pub mod Rows

@@ -1,0 +1,10 @@
+pub mod StatusLife
+pub mod Words
+pub mod Views
+pub mod Changes
+pub mod Agreement
+pub mod Rule
+pub mod Steps
+pub mod Seats
+pub mod Standing
+pub mod Tokens
