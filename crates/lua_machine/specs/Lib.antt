@@ -1,0 +1,5 @@
+pub mod Piled
+pub mod Does
+pub mod LoadedCode
+pub mod Failing
+pub mod Moved

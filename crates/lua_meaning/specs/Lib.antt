@@ -1,0 +1,11 @@
+pub mod Run
+pub mod Level
+pub mod Names
+pub mod Faults
+pub mod Operate
+pub mod Expressions
+pub mod Statements
+pub mod Library
+pub mod Calls
+pub mod Levels
+pub mod Whole

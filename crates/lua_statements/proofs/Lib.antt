@@ -1,0 +1,9 @@
+pub mod Flows
+pub mod BlockTurns
+pub mod JumpTurns
+pub mod LoopTurns
+pub mod NumericTurns
+pub mod ChoiceTurns
+pub mod LocalTurns
+pub mod CallTurns
+pub mod GenericTurns
