@@ -14,33 +14,41 @@ use Rattle.lua_meaning.specs.Run.{World, Store, Run, Ended, Asks, Wrote}
 use Rattle.lua_meaning.specs.Level.{Loaded}
 use Rattle.lua_meaning.specs.Levels.{level}
 
--- ---- the texts of a program are interned before it runs
+-- ---- the texts of a program are interned before it runs, one after another
 
-abbrev pub all_named : List (List ℕ) → List (List ℕ) → List (List ℕ)
-all_named texts [] = texts
-all_named texts (t ∷ ts) = all_named (named texts t) ts
+abbrev pub with_text : Store → List ℕ → Store
+with_text s t = record s { texts = named s.texts t }
+
+-- the memory when all of them are interned
+abbrev pub with_texts : Store → List (List ℕ) → Store
+with_texts s [] = s
+with_texts s (t ∷ ts) = with_texts (with_text s t) ts
+
+abbrev pub interning : List (List ℕ) → Store → Run → Run
+interning [] s next = next
+interning (t ∷ ts) s next = Wrote (with_text s t) (interning ts (with_text s t) next)
 
 abbrev pub key_of : List (List ℕ) → List ℕ → Value
 key_of texts t = V.Str (record { number = number_of texts t })
-
-abbrev pub with_program : Program → Store → Store
-with_program program store = record store { texts = all_named store.texts program.texts }
 
 abbrev pub loaded : Program → Store → Loaded
 loaded program store =
     record {
       program = program;
-      keys = map (key_of (with_program program store).texts) program.texts;
+      keys = map (key_of (with_texts store program.texts).texts) program.texts;
     }
 
 -- ---- runs
 
 -- a call of a function with a budget, on the first of a thousand levels
+abbrev pub called_by : Program → Store → Value → List Value → ℕ → Run
+called_by program store v args budget =
+    (level (loaded program store) 1000).call v args (record { line = 0; outer = 0 })
+    (record { store = with_texts store program.texts; left = budget }) Ended
+
 abbrev pub meant : Program → Store → Value → List Value → ℕ → Run
 meant program store v args budget =
-    Wrote (with_program program store)
-    ((level (loaded program store) 1000).call v args (record { line = 0; outer = 0 })
-    (record { store = with_program program store; left = budget }) Ended)
+    interning program.texts store (called_by program store v args budget)
 
 -- a run with the answers of a host: what it asks, and its end, unless the answers run out
 abbrev pub play : Run → List Answer → List Ask × Option (Result (List Value) Fault × World)
