@@ -1,0 +1,5 @@
+pub mod Texts
+pub mod Diaries
+pub mod Fills
+pub mod Levels
+pub mod Ends
