@@ -1,6 +1,6 @@
 -- The host of one lane alone: an output, and a bank of lindas. What it answers to an ask, and what
 -- the output and the bank are then.
-use Rattle.std.specs.Prelude.{◌≡◌, ◌++◌, ◌∷◌, [], ℕ, List, length, map, Bool, true, false, ◌&&◌, slice_get, slice_set, Option, Some, None}
+use Rattle.std.specs.Prelude.{◌≡◌, ◌≤◌, ◌++◌, ◌∷◌, [], ℕ, List, length, map, Bool, true, false, ◌&&◌, slice_get, slice_set, Option, Some, None}
 use Rattle.std.specs.Io.KnownBytes.{Appends}
 use Rattle.linda_core.specs.declared.call.BankCall.{BankCall}
 use Rattle.linda_core.specs.declared.call.LindaOp.{LindaOp}
@@ -44,7 +44,7 @@ Answers h (ask.Print text) answer.Printed h1 =
     Appends h.taken h1.taken text
     × (h1 ≡ record h { taken = h1.taken })
 Answers h (ask.Print text) answer.WriteFault h1 =
-    AppendsPart h.taken h1.taken text × Rose h.faults h1.faults
+    AppendsPart h.taken h1.taken text × (h.faults ≤ h1.faults) × Rose h.faults h1.faults
     × (h1 ≡ record h { taken = h1.taken; faults = h1.faults; failed = true })
 Answers h ask.NewLinda (answer.Linda n) h1 =
     (n ≡ length h.lindas) × (h1 ≡ record h { lindas = h.lindas ++ [] ∷ [] })

@@ -1,0 +1,4 @@
+pub mod ParamTurns
+pub mod BodyEnds
+pub mod CalleeTurns
+pub mod CallTurns

@@ -1,0 +1,10 @@
+pub mod TargetTurns
+pub mod PushTurns
+pub mod StoreTurns
+pub mod AssignTurns
+pub mod Singles
+pub mod Pairs
+pub mod LocalTurns
+pub mod Follow
+pub mod ValueTurns
+pub mod Forms

@@ -1,0 +1,2 @@
+pub mod ListTurns
+pub mod Stacked
