@@ -3,7 +3,9 @@ ghost use Rattle.std.specs.Prelude.{◌≡◌, ◌≤◌, length};
 ghost use Rattle.lua_meaning.specs.Levels.{level as level_of};
 ghost use Rattle.lua_machine.specs.Does.{Fits, GivesOne, GivesMany, Calls, Runs};
 
-use crate::stubs::{call_on, expr_on, multi_on, stmt_on};
+use lua_calls::call_on;
+use lua_commands::stmt_on;
+use lua_expressions::{expr_on, multi_on};
 use lua_machine::{Below, Done, FlowTag, Got, Host, Loaded, Machine, Window};
 use lua_meaning::Site;
 use lua_program::{RExpr, RStat};

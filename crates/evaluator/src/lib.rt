@@ -5,7 +5,6 @@
 mod knot;
 mod load;
 mod outcome;
-mod stubs;
 mod whole;
 
 pub use outcome::{End, Outcome};

@@ -1,42 +1,36 @@
--- What a run of a script did.
-use Rattle.std.specs.Prelude.{List, ℕ, ◌⊎◌}
+-- What a run of a script did, by the end of its program.
+use Rattle.std.specs.Prelude.{◌≡◌, ◌⊎◌, ℕ, List}
 use Rattle.std.specs.declared.option.Option.{Option}
-use Rattle.first_form.specs.declared.line.Line.{Line}
-use Rattle.std.specs.Io.KnownBytes.{Keeps}
-use Rattle.first_form.specs.Outcome.{Call, IsFirstForm, output_of}
+use Rattle.lua_program.specs.declared.program.Program.{Program}
+use Rattle.lua_scope.specs.Stands.{Stands}
+use Rattle.script_run.specs.declared.script.ProgramEnd.{ProgramEnd}
+use Rattle.script_run.specs.declared.script.ProgramEnd.TheVariants as program
+use Rattle.script_run.specs.Running.{RunsProgram}
+use Rattle.plain_host.specs.Writing.{Told}
 use Rattle.lanes_program.specs.Reading.{GaveScript}
-use Rattle.lanes_program.specs.Running.{RanAll, RanPart}
-use Rattle.lanes_program.specs.Writing.{AppendsPart}
+use Rattle.lanes_program.specs.Refusals.{IsParsed}
+use Rattle.lanes_program.specs.Status.{program_line, program_status}
 
--- the input gave a script of the first form, and all its lines ran
-pub record RunsWhole (left_old left_new taken_old taken_new : Option (List ℕ)) (made : List Call) :
+-- the program of a script of this name: the script is parsed, and the program stands for its tree
+pub record IsProgramOf (script name : List ℕ) (program : Program) : Type 0 where
+  pub parsed : IsParsed script
+  pub stands : Stands program name parsed.tree
+
+-- the input gave a script, and its program ran to this end
+pub record RunsScript (left_old left_new : Option (List ℕ)) (name : List ℕ)
+    (taken_old taken_new : Option (List ℕ)) (faults_old faults_new : ℕ) (end : ProgramEnd) :
     Type 0 where
   pub script : List ℕ
   pub gave : GaveScript left_old left_new script
-  pub lines : List Line
-  pub form : IsFirstForm script lines
-  pub ran : RanAll lines taken_old taken_new made
+  pub program : Program
+  pub is : IsProgramOf script name program
+  pub ran : RunsProgram program taken_old taken_new faults_old faults_new end
 
--- the input gave a script of the first form, and its lines ran up to a print that failed
-pub record RunsPart (left_old left_new taken_old taken_new : Option (List ℕ)) (made : List Call) :
-    Type 0 where
-  pub script : List ℕ
-  pub gave : GaveScript left_old left_new script
-  pub lines : List Line
-  pub form : IsFirstForm script lines
-  pub ran : RanPart lines taken_old taken_new made
-
--- the output took nothing, or the first bytes of what a script of the first form prints
-abbrev pub PrintsFirst : List ℕ → Option (List ℕ) → Option (List ℕ) → Type 0
-PrintsFirst script old new =
-    Keeps old new ⊎ ((lines : List Line) × IsFirstForm script lines
-    × AppendsPart old new (output_of lines))
-
--- a run that ended for want of memory: the output took nothing, or the first bytes of what the
--- script that the input gave prints
-abbrev pub StopsEarly : Option (List ℕ) → Option (List ℕ) → Option (List ℕ) → Option (List ℕ)
-    → Type 0
-StopsEarly left_old left_new taken_old taken_new =
-    Keeps taken_old taken_new
-    ⊎ ((script : List ℕ) × GaveScript left_old left_new script
-    × PrintsFirst script taken_old taken_new)
+-- the program of the script ended so that it has this status, and the errors were told its line
+pub record Finishes (left_old left_new : Option (List ℕ)) (name : List ℕ)
+    (taken_old taken_new : Option (List ℕ)) (faults_old faults_new : ℕ)
+    (told_old told_new : Option (List ℕ)) (untold_old untold_new : ℕ) (status : ℕ) : Type 0 where
+  pub end : ProgramEnd
+  pub is : status ≡ program_status end
+  pub ran : RunsScript left_old left_new name taken_old taken_new faults_old faults_new end
+  pub told : Told untold_old untold_new told_old told_new (program_line end)

@@ -1,16 +1,8 @@
--- What an input gave, and what a count of faults tells.
+-- What an input gave.
 use Rattle.std.specs.Prelude.{◌≤◌, ◌<◌, ℕ, List, length}
 use Rattle.std.specs.declared.option.Option.{Option}
 use Rattle.std.specs.Io.KnownBytes.{Consumes, IsAtEnd}
-use Rattle.outside.specs.Faults.{Rose}
 use Rattle.lua_lexer.specs.declared.limit.TheConstants.{LONGEST}
-
--- An answer that tells of a fault comes exactly where the count rose. Where the count stands at its
--- end, nothing is said.
-pub record TellsFaults (before now : ℕ) (told : Type 0) : Type 0 where
-  pub later : before ≤ now
-  pub only : told → Rose before now
-  pub always : before < now → told
 
 -- the input gave this script, and was read to its end
 pub record Gave (old new : Option (List ℕ)) (script : List ℕ) : Type 0 where

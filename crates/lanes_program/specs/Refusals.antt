@@ -17,10 +17,8 @@ use Rattle.lua_parser.specs.Answers as grammar
 use Rattle.lua_scope.specs.declared.fault.ScopeFault.{ScopeFault}
 use Rattle.lua_scope.specs.Faults.{line_of, text_of}
 use Rattle.lua_scope.specs.Rules.{broken}
-use Rattle.first_form.specs.declared.line.Line.{Line}
-use Rattle.first_form.specs.Outcome.{IsFirstForm}
 use Rattle.lanes_program.specs.declared.refusal.Refusal.{Refusal}
-use Rattle.lanes_program.specs.declared.refusal.Refusal.TheVariants.{TooLong, Lexical, Grammatical, Scoped, NotBuilt}
+use Rattle.lanes_program.specs.declared.refusal.Refusal.TheVariants.{TooLong, Lexical, Grammatical, Scoped}
 use Rattle.lanes_program.specs.Reading.{GaveScript, GaveTooMuch}
 
 -- the fault is at a place of the script
@@ -38,7 +36,6 @@ refusal_text (Grammatical fault token) =
     codes ":" ++ (decimal (grammar_line fault) ++ (codes ": " ++ grammar_text fault token))
 refusal_text (Scoped fault) =
     codes ":" ++ (decimal (line_of fault) ++ (codes ": " ++ text_of fault))
-refusal_text NotBuilt = codes ": not built yet"
 
 abbrev pub refusal_line : List ℕ → Refusal → List ℕ
 refusal_line name refusal = codes "lanes: " ++ (name ++ (refusal_text refusal ++ codes "\n"))
@@ -61,11 +58,6 @@ pub record IsParsed (script : List ℕ) : Type 0 where
   pub spells : Spells tree tokens
   pub shallow : depth_of tree ≤ 60
 
--- the script is parsed, and its tree breaks no rule of scope
-pub record IsBound (script : List ℕ) : Type 0 where
-  pub parsed : IsParsed script
-  pub unbroken : broken parsed.tree ≡ None
-
 -- the script is parsed, and this is the first rule of scope that its tree breaks
 pub record IsUnscoped (script : List ℕ) (fault : ScopeFault) : Type 0 where
   pub parsed : IsParsed script
@@ -78,8 +70,7 @@ pub record IsUnparsed (script : List ℕ) (fault : ParseFault) : Type 0 where
   pub fails : grammar.IsFault tokens fault
 
 -- A script of lawful length has no tokens, with this fault, or its tokens have this fault, at a
--- token with these bytes or at the end, or its tree breaks this rule of scope first, or its tree
--- breaks none and it does not run yet.
+-- token with these bytes or at the end, or its tree breaks this rule of scope first.
 abbrev pub Refuses : List ℕ → Refusal → Type 0
 Refuses script TooLong = ⊥
 Refuses script (Lexical fault) = IsFault script fault × (has_place fault ≡ true)
@@ -87,7 +78,6 @@ Refuses script (Grammatical fault token) =
     IsUnparsed script fault × ((place : Place) → grammar.place_of fault ≡ Some place
     → SpelledAt (drop place.at script) token)
 Refuses script (Scoped fault) = IsUnscoped script fault
-Refuses script NotBuilt = IsBound script × ((lines : List Line) → IsFirstForm script lines → ⊥)
 
 -- the input gave a script of lawful length that is refused so, and was read to its end, or it gave
 -- more than a script may have

@@ -1,7 +1,8 @@
 //! Reads a script to its end.
 ghost use Rattle.std.specs.Prelude.{◌≡◌, ◌≤◌, ◌<◌, ℕ, List, length, IfOk, IsErrOf, OnErr};
 ghost use Rattle.std.specs.Io.KnownBytes.{Consumes};
-ghost use Rattle.lanes_program.specs.Reading.{GaveScript, GaveTooMuch, TellsFaults};
+ghost use Rattle.plain_host.specs.Writing.{TellsFaults};
+ghost use Rattle.lanes_program.specs.Reading.{GaveScript, GaveTooMuch};
 
 use lua_lexer::LONGEST;
 use outside::{ReadFault, Source};

@@ -20,8 +20,6 @@ pub enum Refusal {
     Grammatical(ParseFault, Option<Bytes>),
     /// Its tree breaks a rule of scope.
     Scoped(ScopeFault),
-    /// It is a script of a kind that does not run yet.
-    NotBuilt,
 }
 
 /// The line on the errors that says why the script which a word names is refused. The only refusal
@@ -44,7 +42,6 @@ fn push_reason(alloc: Global, line: &mut Vec<u8>, refusal: &Refusal) -> Result<(
         Refusal::Lexical(fault) => push_fault(alloc, line, *fault),
         Refusal::Grammatical(fault, token) => push_parse_fault(alloc, line, *fault, token),
         Refusal::Scoped(fault) => push_scope_fault(alloc, line, fault),
-        Refusal::NotBuilt => line.extend_from_slice(b": not built yet"),
     }
 }
 
@@ -88,7 +85,7 @@ fn push_scope_fault(alloc: Global, line: &mut Vec<u8>, fault: &ScopeFault) -> Re
 }
 
 /// The name that lines give the script which a word names.
-fn script_name(word: &str) -> &[u8]
+pub fn script_name(word: &str) -> &[u8]
     ensures { result.now ≡ script_name word.now }
 {
     match word.as_bytes() {

@@ -1,164 +1,162 @@
 //! Runs a script, and what a run ends with.
-ghost use Rattle.std.specs.Prelude.{◌≡◌, ◌≢◌, ◌≤◌, [], List, length, IfOk, IfErr, OnOk};
-ghost use Rattle.std.specs.Io.KnownBytes.{Keeps};
-ghost use Rattle.lanes_program.specs.Finish.{PrintsFirst, RunsPart, RunsWhole, StopsEarly};
-ghost use Rattle.lanes_program.specs.Reading.{TellsFaults};
-ghost use Rattle.lanes_program.specs.Refusals.{IsBound, IsRefused, IsUnparsed, Refuses};
+ghost use Rattle.std.specs.Prelude.{◌≡◌, ◌×◌, ◌⊎◌, ◌≤◌, length, Some, Err, IfOk, IfErr};
 ghost use Rattle.lua_lexer.specs.Tokens.{Lexes};
 ghost use Rattle.lua_lexer.specs.View.{marks};
-ghost use Rattle.lanes_program.specs.Running.{RanAll, RanPart};
-ghost use Rattle.lanes_program.specs.Status.{IsEarlyEnd, MayChange};
 ghost use Rattle.lua_scope.specs.Rules.{broken};
-ghost use Rattle.first_form.specs.Outcome.{IsFirstForm};
+ghost use Rattle.lua_scope.specs.Stands.{IsSpelled, Stands};
+ghost use Rattle.plain_host.specs.Writing.{TellsFaults};
+ghost use Rattle.script_run.specs.Running.{RunsProgram};
+ghost use Rattle.lanes_program.specs.Finish.{IsProgramOf, RunsScript};
+ghost use Rattle.lanes_program.specs.Refusals.{IsRefused, IsUnparsed, Refuses};
+ghost use Rattle.lanes_program.specs.Status.{IsEarlyEnd, IsRan};
 
-use crate::calls::Call;
-use crate::lines::{LineStop, run_lines};
 use crate::reading::{ReadEnd, read_script};
 use crate::refusal::Refusal;
-use first_form::{Line, lines_of};
-use lanes_arena::{Bytes, Memory};
+use lanes_arena::Bytes;
 use lua_lexer::{LONGEST, LexFault, TokenList, token_bytes, tokens};
 use lua_parser::{ParseFault, parse};
-use lua_scope::{ScopeFault, bind};
+use lua_program::Program;
+use lua_scope::{ScopeFault, resolve};
 use lua_tree::Tree;
 use outside::{Sink, Source};
+use script_run::{ProgramEnd, RanProgram, run_program};
 use std::alloc::Global;
 
 /// How a run ended.
-#[derive(Debug, Drop, PartialEq, Eq)]
+#[derive(Debug, Drop)]
 pub enum End {
-    Done,
+    /// The program ran, and ended so.
+    Ran(ProgramEnd),
     Refused(Refusal),
     Memory,
     ReadFault,
-    WriteFault,
 }
 
-/// Reads the script, runs it and writes what it prints. `calls` gains the calls that it made.
+/// How a run ended, and its output.
+#[derive(Drop)]
+pub struct Ended<O> {
+    pub end: End,
+    pub output: O,
+}
+
+/// Reads the script of this name, and runs it.
 pub fn run_script<I: Source, O: Sink>(
     alloc: Global,
     input: &mut I,
-    output: &mut O,
-    calls: &mut Vec<Call>,
-) -> End
-    requires { calls.old.items ≡ [] }
-    ensures read { TellsFaults (I.faults input.old) (I.faults input.new) (result ≡ End.ReadFault) }
-    ensures write { TellsFaults (O.faults output.old) (O.faults output.new) (result
-        ≡ End.WriteFault) }
-    ensures done { result ≡ End.Done → RunsWhole (I.left input.old) (I.left input.new)
-        (O.taken output.old) (O.taken output.new) calls.new.items }
-    ensures part { result ≡ End.WriteFault
-        → RunsPart (I.left input.old) (I.left input.new) (O.taken output.old)
-        (O.taken output.new) calls.new.items }
-    ensures memory { result ≡ End.Memory → StopsEarly (I.left input.old) (I.left input.new)
-        (O.taken output.old) (O.taken output.new) }
-    ensures refused { (refusal : Refusal) → result ≡ End.Refused refusal
+    name: &[u8],
+    output: O,
+) -> Ended<O>
+    ensures read { TellsFaults (I.faults input.old) (I.faults input.new) (result.end
+        ≡ End.ReadFault) }
+    ensures write { TellsFaults (O.faults output) (O.faults result.output) (result.end
+        ≡ End.Ran ProgramEnd.WriteFault) }
+    ensures ran { (end : ProgramEnd) → result.end ≡ End.Ran end
+        → RunsScript (I.left input.old) (I.left input.new) name.now (O.taken output)
+        (O.taken result.output) (O.faults output) (O.faults result.output) end
+        ⊎ ((end ≡ ProgramEnd.Memory) × (result.output ≡ output)) }
+    ensures refused { (refusal : Refusal) → result.end ≡ End.Refused refusal
         → IsRefused (I.left input.old) (I.left input.new) refusal }
-    ensures kept { (MayChange result → ⊥)
-        → Keeps (O.taken output.old) (O.taken output.new) × (calls.new.items ≡ []) }
+    ensures kept { (IsRan result.end → ⊥) → result.output ≡ output }
 {
     match read_script(alloc, input) {
         Ok(script) => match Bytes::from_vec(script) {
-            Ok(script) => run_text(alloc, &script, output, calls),
-            Err(_) => End::Memory,
+            Ok(script) => run_text(alloc, &script, name, output),
+            Err(_) => Ended {
+                end: End::Memory,
+                output,
+            },
         },
-        Err(ReadEnd::Fault) => End::ReadFault,
-        Err(ReadEnd::TooLong) => End::Refused(Refusal::TooLong),
-        Err(ReadEnd::Memory) => End::Memory,
+        Err(ReadEnd::Fault) => Ended {
+            end: End::ReadFault,
+            output,
+        },
+        Err(ReadEnd::TooLong) => Ended {
+            end: End::Refused(Refusal::TooLong),
+            output,
+        },
+        Err(ReadEnd::Memory) => Ended {
+            end: End::Memory,
+            output,
+        },
     }
 }
 
 // Runs a script of lawful length.
-fn run_text<O: Sink>(alloc: Global, script: &Bytes, output: &mut O, calls: &mut Vec<Call>) -> End
-    requires short { length script.now ≤ LONGEST }
-    requires empty { calls.old.items ≡ [] }
-    ensures write { TellsFaults (O.faults output.old) (O.faults output.new) (result
-        ≡ End.WriteFault) }
-    ensures done { result ≡ End.Done → (lines : List Line) × IsFirstForm script.now lines
-        × RanAll lines (O.taken output.old) (O.taken output.new) calls.new.items }
-    ensures part { result ≡ End.WriteFault
-        → (lines : List Line) × IsFirstForm script.now lines
-        × RanPart lines (O.taken output.old) (O.taken output.new) calls.new.items }
-    ensures memory { result ≡ End.Memory
-        → PrintsFirst script.now (O.taken output.old) (O.taken output.new) }
-    ensures refused { (refusal : Refusal) → result ≡ End.Refused refusal
-        → Refuses script.now refusal }
-    ensures no_read { result ≢ End.ReadFault }
-    ensures kept { (MayChange result → ⊥)
-        → Keeps (O.taken output.old) (O.taken output.new) × (calls.new.items ≡ []) }
-{
-    match accepted(alloc, script) {
-        Ok(lines) => match run_lines(alloc, &lines, output, calls) {
-            Ok(()) => End::Done,
-            Err(LineStop::WriteFault) => End::WriteFault,
-            Err(LineStop::Memory) => End::Memory,
-        },
-        Err(end) => end,
-    }
-}
-
-// The lines of a script that runs, or how its run ends at once: refused, or for want of memory.
-fn accepted(alloc: Global, script: &Bytes) -> Result<Vec<Line>, End>
+fn run_text<O: Sink>(alloc: Global, script: &Bytes, name: &[u8], output: O) -> Ended<O>
     requires { length script.now ≤ LONGEST }
-    ensures lines { IfOk result (λ lines. IsFirstForm script.now lines.items) }
-    ensures refused { (refusal : Refusal) → result ≡ Err (End.Refused refusal)
+    ensures write { TellsFaults (O.faults output) (O.faults result.output) (result.end
+        ≡ End.Ran ProgramEnd.WriteFault) }
+    ensures ran { (end : ProgramEnd) → result.end ≡ End.Ran end
+        → ((program : Program) × IsProgramOf script.now name.now program
+        × RunsProgram program (O.taken output) (O.taken result.output) (O.faults output)
+        (O.faults result.output) end) ⊎ ((end ≡ ProgramEnd.Memory) × (result.output ≡ output)) }
+    ensures refused { (refusal : Refusal) → result.end ≡ End.Refused refusal
         → Refuses script.now refusal }
-    ensures others { IfErr result IsEarlyEnd }
+    ensures no_read { result.end ≡ End.ReadFault → ⊥ }
+    ensures kept { (IsRan result.end → ⊥) → result.output ≡ output }
 {
-    match lines_of(alloc, script.as_slice()) {
-        Ok(Some(lines)) => Ok(lines),
-        Ok(None) => {
-            bound(alloc, script)?;
-            Err(End::Refused(Refusal::NotBuilt))
+    match program_of(alloc, script, name) {
+        Ok(program) => {
+            let RanProgram { end, output } = run_program(alloc, program, output);
+            Ended {
+                end: End::Ran(end),
+                output,
+            }
         }
-        Err(_) => Err(End::Memory),
+        Err(end) => Ended { end, output },
     }
 }
 
-// Nothing for a script that has a tree in which no rule of scope is broken, or how the run of
-// another one ends at once.
-fn bound(alloc: Global, script: &Bytes) -> Result<(), End>
+// The program of a script, or how its run ends at once: refused, or for want of memory.
+fn program_of(alloc: Global, script: &Bytes, name: &[u8]) -> Result<Program, End>
     requires { length script.now ≤ LONGEST }
-    ensures bound { OnOk result (IsBound script.now) }
+    ensures program { IfOk result (λ program. IsProgramOf script.now name.now program) }
     ensures refused { (refusal : Refusal) → result ≡ Err (End.Refused refusal)
         → Refuses script.now refusal }
     ensures others { IfErr result IsEarlyEnd }
 {
     match tokens(alloc, script) {
-        Ok(found) => bound_tokens(alloc, script, found),
+        Ok(found) => program_of_tokens(alloc, script, found, name),
         Err(LexFault::TooLong | LexFault::Memory) => Err(End::Memory),
         Err(fault) => Err(End::Refused(Refusal::Lexical(fault))),
     }
 }
 
 // The same for a script with these tokens.
-fn bound_tokens(alloc: Global, script: &Bytes, tokens: TokenList) -> Result<(), End>
+fn program_of_tokens(
+    alloc: Global,
+    script: &Bytes,
+    tokens: TokenList,
+    name: &[u8],
+) -> Result<Program, End>
     requires { Lexes script.now (marks tokens) }
-    ensures bound { OnOk result (IsBound script.now) }
+    ensures program { IfOk result (λ program. IsProgramOf script.now name.now program) }
     ensures refused { (refusal : Refusal) → result ≡ Err (End.Refused refusal)
         → Refuses script.now refusal }
     ensures others { IfErr result IsEarlyEnd }
 {
     match parse(alloc, tokens) {
-        Ok(tree) => match first_fault(alloc, &tree) {
-            Ok(None) => Ok(()),
-            Ok(Some(fault)) => Err(End::Refused(Refusal::Scoped(fault))),
-            Err(Memory) => Err(End::Memory),
-        },
+        Ok(tree) => program_of_tree(alloc, tree, name),
         Err(ParseFault::Memory) => Err(End::Memory),
         Err(fault) => Err(unparsed(alloc, script, fault)),
     }
 }
 
-// The first rule of scope that a tree breaks, if it breaks one.
+// The same for a script with this tree.
 #[tactic(auto, using(crate::proofs::RefusalLemmas::told))]
-fn first_fault(alloc: Global, tree: &Tree) -> Result<Option<ScopeFault>, Memory>
-    ensures { IfOk result (λ first. broken tree.now ≡ first) }
+fn program_of_tree(alloc: Global, tree: Tree, name: &[u8]) -> Result<Program, End>
+    ensures program { IfOk result (λ program. IsSpelled tree → Stands program name.now tree) }
+    ensures refused { (refusal : Refusal) → result ≡ Err (End.Refused refusal)
+        → (fault : ScopeFault) × (refusal ≡ Refusal.Scoped fault) × (broken tree ≡ Some fault) }
+    ensures others { IfErr result IsEarlyEnd }
 {
-    match bind(alloc, tree) {
-        Ok(_) => Ok(None),
-        Err(ScopeFault::Memory) => Err(Memory),
-        Err(fault) => Ok(Some(fault)),
+    let Ok(name) = Bytes::of(alloc, name) else {
+        return Err(End::Memory);
+    };
+    match resolve(alloc, tree, name) {
+        Ok(program) => Ok(program),
+        Err(ScopeFault::Memory) => Err(End::Memory),
+        Err(fault) => Err(End::Refused(Refusal::Scoped(fault))),
     }
 }
 

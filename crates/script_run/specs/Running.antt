@@ -16,17 +16,17 @@ use Rattle.script_run.specs.declared.script.ProgramEnd.{ProgramEnd}
 use Rattle.script_run.specs.declared.script.ProgramEnd.TheVariants as E
 use Rattle.script_run.specs.Opening.{IsOpening}
 
--- the text of an error that nothing caught
-abbrev pub raised_text : Texts → Value → List ℕ
-raised_text texts (V.Int n) = shown texts (V.Int n)
-raised_text texts (V.Str id) = shown texts (V.Str id)
-raised_text texts v =
-    codes "error object is a " ++ name_of_kind (kind_of v) ++ codes " value"
+-- the line that tells of an error that nothing caught
+abbrev pub raised_line : Texts → Value → List ℕ
+raised_line texts (V.Int n) = codes "lanes: " ++ shown texts (V.Int n) ++ codes "\n"
+raised_line texts (V.Str id) = codes "lanes: " ++ shown texts (V.Str id) ++ codes "\n"
+raised_line texts v =
+    codes "lanes: error object is a " ++ name_of_kind (kind_of v) ++ codes " value\n"
 
 -- how the program ends, by the outcome of its main body, where no write failed
 abbrev pub ending : Texts → Result (List Value) Fault → ProgramEnd
 ending texts (Ok vs) = E.Returned
-ending texts (Err (F.Raised v)) = E.Raised (raised_text texts v)
+ending texts (Err (F.Raised v)) = E.Raised (raised_line texts v)
 ending texts (Err F.Spent) = E.Spent
 ending texts (Err fault) = E.Memory
 

@@ -1,37 +1,39 @@
-//! The text of an error that nothing caught.
+//! The line that tells of an error that nothing caught.
 ghost use Rattle.std.specs.Prelude.{◌≡◌, ◌++◌, codes, IfOk};
 ghost use Rattle.base_lib.specs.Shown.{shown};
-ghost use Rattle.script_run.specs.Running.{raised_text};
+ghost use Rattle.script_run.specs.Running.{raised_line};
 
 use base_lib::push_shown;
 use object_store::{State, Value};
 use std::alloc::{AllocError, Global};
 
-/// The text that goes onto the errors for a value that was raised: that of a string or an integer,
-/// else what kind of value it is.
-pub fn raised_text(alloc: Global, state: &State, value: Value) -> Result<Vec<u8>, AllocError>
-    ensures { IfOk result (λ text. text.items ≡ raised_text state.now.texts value) }
+/// The line for a value that was raised: it has the text of a string or an integer, and of another
+/// value its type.
+pub fn raised_line(alloc: Global, state: &State, value: Value) -> Result<Vec<u8>, AllocError>
+    ensures { IfOk result (λ line. line.items ≡ raised_line state.now.texts value) }
 {
     match value {
-        Value::Int(_) | Value::Str(_) => plain_text(alloc, state, value),
-        _ => kind_text(alloc, value.kind().name()),
+        Value::Int(_) | Value::Str(_) => text_line(alloc, state, value),
+        _ => type_line(alloc, value.kind().name()),
     }
 }
 
-fn plain_text(alloc: Global, state: &State, value: Value) -> Result<Vec<u8>, AllocError>
-    ensures { IfOk result (λ text. text.items ≡ shown state.now.texts value) }
+fn text_line(alloc: Global, state: &State, value: Value) -> Result<Vec<u8>, AllocError>
+    ensures { IfOk result (λ line. line.items
+        ≡ codes "lanes: " ++ shown state.now.texts value ++ codes "\n") }
 {
-    let mut text = Vec::new(alloc);
-    push_shown(state, value, &mut text)?;
-    Ok(text)
+    let mut line = b"lanes: ".to_vec(alloc)?;
+    push_shown(state, value, &mut line)?;
+    line.extend_from_slice(b"\n")?;
+    Ok(line)
 }
 
-fn kind_text(alloc: Global, kind: &str) -> Result<Vec<u8>, AllocError>
-    ensures { IfOk result (λ text. text.items
-        ≡ codes "error object is a " ++ kind.now ++ codes " value") }
+fn type_line(alloc: Global, name: &str) -> Result<Vec<u8>, AllocError>
+    ensures { IfOk result (λ line. line.items
+        ≡ codes "lanes: error object is a " ++ name.now ++ codes " value\n") }
 {
-    let mut text = b"error object is a ".to_vec(alloc)?;
-    text.extend_from_slice(kind.as_bytes())?;
-    text.extend_from_slice(b" value")?;
-    Ok(text)
+    let mut line = b"lanes: error object is a ".to_vec(alloc)?;
+    line.extend_from_slice(name.as_bytes())?;
+    line.extend_from_slice(b" value\n")?;
+    Ok(line)
 }

@@ -10,7 +10,7 @@ ghost use Rattle.script_run.specs.Opening.{IsOpening};
 ghost use Rattle.script_run.specs.Running.{RunsProgram, ends, steps};
 
 use crate::opening::opened;
-use crate::raised::raised_text;
+use crate::raised::raised_line;
 use evaluator::{End, Outcome, run};
 use lanes_arena::Row;
 use lua_program::Program;
@@ -28,7 +28,7 @@ const STEPS: u64 = 9_223_372_036_854_775_807;
 pub enum ProgramEnd {
     /// Its main body returned.
     Returned,
-    /// It raised an error that nothing caught. This is its text.
+    /// It raised an error that nothing caught. This is the line that says so, with its end.
     Raised(Row<u8>),
     /// Memory ran out.
     Memory,
@@ -106,8 +106,8 @@ fn ending(alloc: Global, failed: bool, state: &State, end: End) -> ProgramEnd
     }
     match end {
         End::Returned(_) => ProgramEnd::Returned,
-        End::Raised(value) => match raised_text(alloc, state, value) {
-            Ok(text) => ProgramEnd::Raised(Row::of(text)),
+        End::Raised(value) => match raised_line(alloc, state, value) {
+            Ok(line) => ProgramEnd::Raised(Row::of(line)),
             Err(_) => ProgramEnd::Memory,
         },
         End::BudgetSpent(_) => ProgramEnd::Spent,

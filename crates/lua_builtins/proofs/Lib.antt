@@ -1,0 +1,11 @@
+pub mod Stacks
+pub mod Readings
+pub mod Plains
+pub mod Catching
+pub mod Askings
+pub mod ErrorTurns
+pub mod TextTurns
+pub mod WalkTurns
+pub mod HandlerCalls
+pub mod Received
+pub mod Tables

@@ -1,0 +1,4 @@
+pub mod Gives
+pub mod Apart
+pub mod Asking
+pub mod Parts
