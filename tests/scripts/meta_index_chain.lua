@@ -1,0 +1,6 @@
+-- `__index` is followed through tables to a function.
+local last = setmetatable({c = "c"}, {__index = function(o, k) return "function of " .. o.c .. " for " .. k end})
+local middle = setmetatable({b = "b"}, {__index = last})
+local t = setmetatable({a = "a"}, {__index = middle})
+print(t.a, t.b, t.c, t.d, t[1])
+print(rawget(t, "b"), rawget(middle, "c"))
