@@ -11,7 +11,7 @@ A case is a folder with any of these files:
     status          the exit status that is wanted (0 where it is missing)
 
 Each row of grammar_rows.py, label_rows.py and scope_rows.py is a case too: a script on standard input, which has no fault, or one
-with this line and text.
+with this line and text. And so is each script of scripts/, of which one line is shown where it fails; script_files.py shows all.
 
 With --after LOG the counts of a run of `rt ci` in LOG are added.
 """
@@ -29,6 +29,7 @@ sys.dont_write_bytecode = True
 import grammar_rows
 import label_rows
 import scope_rows
+import script_files
 
 TESTS = pathlib.Path(__file__).resolve().parent
 PROGRAM = TESTS.parent / "crates" / "lanes" / "out" / "lanes"
@@ -89,13 +90,15 @@ def run_row(row):
 
 def all_cases():
     """What is run, and what differs there, as lines."""
-    for case in sorted(path for path in TESTS.iterdir() if path.is_dir()):
+    for case in sorted(path for path in TESTS.iterdir() if path.is_dir() and path != script_files.SCRIPTS):
         yield f"tests/{case.name}", run(case)
     for module in (grammar_rows, label_rows, scope_rows):
         rows = list(module.rows())
         with concurrent.futures.ThreadPoolExecutor(os.cpu_count()) as pool:
             for row, lines in zip(rows, pool.map(run_row, rows)):
                 yield f"the row {row[0][:200]!r} of tests/{module.__name__}.py", lines
+    for name, lines in script_files.run_all(script_files.names()):
+        yield f"tests/scripts/{name}.lua", lines[:1]
 
 
 def differences(name, wanted, found):
@@ -131,7 +134,7 @@ def main():
         for name, lines in all_cases():
             passed, failed = (passed, failed + 1) if lines else (passed + 1, failed)
             if lines:
-                print(f"FAILED: {name}", *lines, sep="\n    ")
+                print(f"FAILED: {name}", *lines, sep=": " if len(lines) == 1 else "\n    ")
     print(f"{passed} passed, {failed} failed")
     return 1 if failed else 0
 

@@ -1,0 +1,15 @@
+-- Differs from Lua in the text, which names no variable, and names the first operand that is no number.
+local t, n, b = {}, nil, true
+print(pcall(function() return n + 1 end))
+print(pcall(function() return 1 - n end))
+print(pcall(function() return t * b end))
+print(pcall(function() return b // t end))
+print(pcall(function() return print % 2 end))
+print(pcall(function() return -t end))
+print(pcall(function() return -n end))
+print(pcall(function() return "abc" + 1 end))
+print(pcall(function() return 1 + "abc" end))
+print(pcall(function() return "" * 1 end))
+print(pcall(function() return -"x" end))
+print(pcall(function() return "10" + t end))
+print(pcall(function() return {} + n end))

@@ -1,0 +1,1 @@
+break -- Differs from Lua in the text and the status.

@@ -1,0 +1,12 @@
+-- Differs from Lua, which has no lindas: what is refused until it is built, namely other values, timeouts and waiting.
+local l = require "lanes".linda()
+print(pcall(l.send, l, "k", true))
+print(pcall(l.send, l, "k", 1, {}))
+print(pcall(l.send, l, "k", nil))
+print(pcall(l.send, l, 5, "k", 1))
+print(pcall(l.send, l, nil, "k", 1))
+print(pcall(l.receive, l, "k"))
+print(pcall(l.receive, l, 0, "k"))
+print(pcall(function() l:receive("k", "other") end))
+l:send("k", "still there")
+print(l:receive("k"))

@@ -1,0 +1,16 @@
+-- First in, first out, integers and strings.
+local lanes = require "lanes"
+local l = lanes.linda()
+print(l:send("k", 1))
+print(l:send("k", "two"))
+l:send("k", -3)
+print(l:receive("k"))
+print(l:receive("k"))
+print(l:receive("k"))
+l:send("k", "")
+l:send("k", "a\0b")
+l:send("k", math.mininteger)
+local k, v = l:receive("k")
+print(k, #v)
+print(l:receive("k"))
+print(l:receive("k"))

@@ -1,0 +1,10 @@
+-- Texts joined with tabs, one line a call.
+print()
+print(nil)
+print("a", "b")
+print("", "")
+print(1, nil, true, "x")
+print("several\nlines", "tab\there")
+print("bytes \0 and \255")
+print(print())
+print((print("inner")))

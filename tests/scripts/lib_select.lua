@@ -1,0 +1,10 @@
+-- The values from a place on, from the end, and their number.
+print(select(1, "a", "b", "c"))
+print(select(2, "a", "b", "c"))
+print(select(4, "a", "b", "c"))
+print(select(100, "a"))
+print(select(-1, "a", "b", "c"))
+print(select(-3, "a", "b", "c"))
+print(select("#"), select("#", nil), select("#", nil, nil), select("#", 1, nil, 3, nil))
+print(select("2", "a", "b"), (select(2, "a", "b", "c")))
+print(select(math.maxinteger, 1) == nil, select("#", select(math.maxinteger, 1)))

@@ -1,0 +1,10 @@
+-- Differs from Lua in the text: with a base the first argument must be a string.
+print(pcall(tonumber, 5, 10))
+print(pcall(tonumber, nil, 10))
+print(pcall(tonumber, {}, 10))
+print(pcall(tonumber, "5", 1))
+print(pcall(tonumber, "5", 37))
+print(pcall(tonumber, "5", 0))
+print(pcall(tonumber, "5", -10))
+print(pcall(tonumber, "5", {}))
+print(pcall(tonumber, "5", "x"))

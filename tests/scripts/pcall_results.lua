@@ -1,0 +1,10 @@
+-- Differs from Lua in the text of a bad argument: true and the results, or false and the error.
+print(pcall(function() end))
+print(pcall(function() return nil end))
+print(pcall(function(...) return ... end, 1, nil, 3))
+print(select("#", pcall(function() return nil, nil end)))
+print(pcall(function(a, b) return a + b end, 1, 2))
+print(pcall(print, "printed"))
+print(pcall(pcall, error, "x"))
+print(pcall(pcall))
+print(pcall(type, nil))

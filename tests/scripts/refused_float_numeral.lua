@@ -1,0 +1,3 @@
+-- Differs from Lua, which has floats.
+print("never")
+print(1.5)

@@ -1,0 +1,4 @@
+-- Differs from Lua, which has a division with floats.
+print("never")
+print(2
+  / 1)

@@ -1,0 +1,6 @@
+-- Semicolons are empty statements.
+;;;
+local a = 1;
+;print(a);;
+do ; end
+print("end");

@@ -1,0 +1,1 @@
+error({}) -- Differs from Lua in the form of the line.

@@ -1,0 +1,2 @@
+-- Differs from Lua in the form of the line.
+error(false)

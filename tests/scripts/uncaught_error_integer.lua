@@ -1,0 +1,2 @@
+-- An integer is shown as its text.
+error(42)

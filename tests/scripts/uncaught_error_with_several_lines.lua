@@ -1,0 +1,2 @@
+-- A text may have several lines.
+error("one\ntwo", 0)

@@ -1,0 +1,4 @@
+-- The main body takes `...`, which is empty.
+print(select("#", ...), ...)
+local a, b = ...
+print(a, b, #{...})
