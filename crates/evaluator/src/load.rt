@@ -14,7 +14,8 @@ use std::alloc::AllocError;
 pub fn load<H: Host>(m: &mut Machine<H>, texts: &[Bytes]) -> Result<Vec<Value>, AllocError>
     ensures leads { (next : Run) → Leads H.asked (point m.old) (interning texts.now (store_of
         m.old.state) next) (point m.new) (goes_on result next) }
-    ensures store { OnOk result (store_of m.new.state ≡ with_texts (store_of m.old.state) texts.now) }
+    ensures store { OnOk result
+        (store_of m.new.state ≡ with_texts (store_of m.old.state) texts.now) }
     ensures keys { IfOk result
         (λ keys. keys.items ≡ map (key_of m.new.state.texts) texts.now) }
     ensures rest { m.new ≡ record m.old { state = m.new.state } }

@@ -1,4 +1,1 @@
-pub mod HoldLemmas
 pub mod RefusalLemmas
-pub mod RunLemmas
-pub mod Taken

@@ -2,7 +2,6 @@
 ghost use Rattle.std.specs.Prelude.{Some};
 
 use lanes_program::{Finished, run_lanes, script_word};
-use linda_core::{Item, LindaReply};
 use outside::{BytesIn, BytesOut, ReadFault, Source};
 use std::alloc::{AllocError, Global};
 
@@ -34,7 +33,7 @@ a,a,a,a,a,a,a,a,a,a,a,a,a,a,a,a,a,a,a,a,a,a,a,a,a,a,a,a,a,a,a,a,a,a,a,a,a,a,a,a,
 a,a,a,a,a,a,a,a,a,a,a,a,a,a,a,a,a,a,a,a,a,a,a,a,a,a,a,a,a,a,a,a,a,a,a,a,a,a,a,a,a,a,a,a,a,a,a,a,a,a,
 a";
 
-const NOT_BUILT: &[u8] = b"lanes: t.lua: not built yet\n";
+const NOT_BUILT: &[u8] = b"lanes: t.lua:2: not built yet\n";
 
 struct Case {
     script: &'static [u8],
@@ -44,10 +43,33 @@ struct Case {
     status: u8,
     output: &'static [u8],
     errors: &'static [u8],
-    calls: usize,
 }
 
-const CASES: [Case; 30] = [
+const CASES: [Case; 33] = [
+    Case {
+        script: b"local t = {3, 1, 2} for i = 1, #t do print(i, t[i] * 2) end",
+        read: 0,
+        write: 0,
+        status: 0,
+        output: b"1\t6\n2\t2\n3\t4\n",
+        errors: b"",
+    },
+    Case {
+        script: b"print(1)\nlocal t = nil\nprint(t.x)",
+        read: 0,
+        write: 0,
+        status: 1,
+        output: b"1\n",
+        errors: b"lanes: t.lua:3: attempt to index a nil value\n",
+    },
+    Case {
+        script: b"error({})",
+        read: 0,
+        write: 0,
+        status: 1,
+        output: b"",
+        errors: b"lanes: error object is a table value\n",
+    },
     Case {
         script: FIRST,
         read: 0,
@@ -55,7 +77,6 @@ const CASES: [Case; 30] = [
         status: 0,
         output: b"k\t42\n",
         errors: b"",
-        calls: 2,
     },
     Case {
         script: TWO,
@@ -64,7 +85,6 @@ const CASES: [Case; 30] = [
         status: 0,
         output: b"k\t7\nk\ta b\n",
         errors: b"",
-        calls: 4,
     },
     Case {
         script: TWO_KEYS,
@@ -73,7 +93,6 @@ const CASES: [Case; 30] = [
         status: 0,
         output: b"b\t2\na\t1\na\t3\n",
         errors: b"",
-        calls: 6,
     },
     Case {
         script: FIRST,
@@ -82,7 +101,6 @@ const CASES: [Case; 30] = [
         status: 5,
         output: b"",
         errors: b"lanes: read fault\n",
-        calls: 0,
     },
     Case {
         script: FIRST,
@@ -91,7 +109,6 @@ const CASES: [Case; 30] = [
         status: 5,
         output: b"",
         errors: b"lanes: read fault\n",
-        calls: 0,
     },
     Case {
         script: FIRST,
@@ -100,7 +117,6 @@ const CASES: [Case; 30] = [
         status: 6,
         output: b"",
         errors: b"lanes: write fault\n",
-        calls: 2,
     },
     Case {
         script: TWO,
@@ -109,7 +125,6 @@ const CASES: [Case; 30] = [
         status: 6,
         output: b"",
         errors: b"lanes: write fault\n",
-        calls: 3,
     },
     Case {
         script: TWO,
@@ -118,7 +133,6 @@ const CASES: [Case; 30] = [
         status: 6,
         output: b"k\t7\n",
         errors: b"lanes: write fault\n",
-        calls: 4,
     },
     Case {
         script: TWO_KEYS,
@@ -127,7 +141,6 @@ const CASES: [Case; 30] = [
         status: 6,
         output: b"",
         errors: b"lanes: write fault\n",
-        calls: 4,
     },
     Case {
         script: TWO_KEYS,
@@ -136,7 +149,6 @@ const CASES: [Case; 30] = [
         status: 6,
         output: b"b\t2\n",
         errors: b"lanes: write fault\n",
-        calls: 5,
     },
     Case {
         script: TWO_KEYS,
@@ -145,16 +157,14 @@ const CASES: [Case; 30] = [
         status: 6,
         output: b"b\t2\na\t1\n",
         errors: b"lanes: write fault\n",
-        calls: 6,
     },
     Case {
         script: b"local lanes = require \"lanes\" local l = lanes.linda()\nl:receive(\"k\")\n",
         read: 0,
         write: 0,
-        status: 3,
+        status: 1,
         output: b"",
         errors: NOT_BUILT,
-        calls: 0,
     },
     Case {
         script: b"local lanes = require \"lanes\" local l = lanes.linda()
@@ -163,10 +173,9 @@ l:send(\"k\", 1)
 ",
         read: 0,
         write: 0,
-        status: 3,
+        status: 1,
         output: b"",
         errors: NOT_BUILT,
-        calls: 0,
     },
     Case {
         script: b"local lanes = require \"lanes\" local l = lanes.linda()
@@ -174,19 +183,17 @@ l:send(\"k\", \"a_b\")
 ",
         read: 0,
         write: 0,
-        status: 3,
+        status: 0,
         output: b"",
-        errors: NOT_BUILT,
-        calls: 0,
+        errors: b"",
     },
     Case {
         script: b"",
         read: 0,
         write: 0,
-        status: 3,
+        status: 0,
         output: b"",
-        errors: NOT_BUILT,
-        calls: 0,
+        errors: b"",
     },
     Case {
         script: b"print(1.5)",
@@ -195,7 +202,6 @@ l:send(\"k\", \"a_b\")
         status: 3,
         output: b"",
         errors: b"lanes: t.lua:1: float numeral\n",
-        calls: 0,
     },
     Case {
         script: b"\r\nprint(\"abc",
@@ -204,7 +210,6 @@ l:send(\"k\", \"a_b\")
         status: 3,
         output: b"",
         errors: b"lanes: t.lua:2: unfinished string\n",
-        calls: 0,
     },
     Case {
         script: b"print(2/1)",
@@ -213,7 +218,6 @@ l:send(\"k\", \"a_b\")
         status: 3,
         output: b"",
         errors: b"lanes: t.lua:1: float operator\n",
-        calls: 0,
     },
     Case {
         script: b"local x =",
@@ -222,7 +226,6 @@ l:send(\"k\", \"a_b\")
         status: 3,
         output: b"",
         errors: b"lanes: t.lua:1: unexpected end\n",
-        calls: 0,
     },
     Case {
         script: b"x = = 1",
@@ -231,7 +234,6 @@ l:send(\"k\", \"a_b\")
         status: 3,
         output: b"",
         errors: b"lanes: t.lua:1: unexpected '='\n",
-        calls: 0,
     },
     Case {
         script: b"break",
@@ -240,7 +242,6 @@ l:send(\"k\", \"a_b\")
         status: 3,
         output: b"",
         errors: b"lanes: t.lua:1: break outside a loop\n",
-        calls: 0,
     },
     Case {
         script: b"local x <const> = 1\nf = function() x = 2 end",
@@ -249,7 +250,6 @@ l:send(\"k\", \"a_b\")
         status: 3,
         output: b"",
         errors: b"lanes: t.lua:2: assignment to a constant\n",
-        calls: 0,
     },
     Case {
         script: b"function f()\nreturn ... end",
@@ -258,7 +258,6 @@ l:send(\"k\", \"a_b\")
         status: 3,
         output: b"",
         errors: b"lanes: t.lua:2: '...' outside a vararg function\n",
-        calls: 0,
     },
     Case {
         script: LOCALS,
@@ -267,7 +266,6 @@ l:send(\"k\", \"a_b\")
         status: 3,
         output: b"",
         errors: b"lanes: t.lua:6: too many local variables\n",
-        calls: 0,
     },
     Case {
         script: b"local x <const>, _ENV = 1, 2",
@@ -276,7 +274,6 @@ l:send(\"k\", \"a_b\")
         status: 3,
         output: b"",
         errors: b"lanes: t.lua:1: _ENV is not supported\n",
-        calls: 0,
     },
     Case {
         script: b"break\nx = = 1",
@@ -285,7 +282,6 @@ l:send(\"k\", \"a_b\")
         status: 3,
         output: b"",
         errors: b"lanes: t.lua:2: unexpected '='\n",
-        calls: 0,
     },
     Case {
         script: b"\ngoto y",
@@ -294,7 +290,6 @@ l:send(\"k\", \"a_b\")
         status: 3,
         output: b"",
         errors: b"lanes: t.lua:2: no visible label 'y'\n",
-        calls: 0,
     },
     Case {
         script: b"::a::\n::a::",
@@ -303,7 +298,6 @@ l:send(\"k\", \"a_b\")
         status: 3,
         output: b"",
         errors: b"lanes: t.lua:2: label 'a' already defined\n",
-        calls: 0,
     },
     Case {
         script: b"goto x local a = 1 ::x:: print(a)",
@@ -312,7 +306,6 @@ l:send(\"k\", \"a_b\")
         status: 3,
         output: b"",
         errors: b"lanes: t.lua:1: goto jumps into the scope of a local\n",
-        calls: 0,
     },
     Case {
         script: b"local lanes = require \"lanes\" local l = lanes.linda()",
@@ -321,7 +314,6 @@ l:send(\"k\", \"a_b\")
         status: 0,
         output: b"",
         errors: b"",
-        calls: 0,
     },
 ];
 
@@ -341,7 +333,6 @@ fn runs_and_refuses(rt: HostRuntime) -> Result<(), AllocError> {
         let (finished, errors) = run(alloc, case)?;
         assert_eq!(rt; finished.status, case.status);
         assert_eq!(rt; errors.taken(), case.errors);
-        assert_eq!(rt; finished.calls.as_slice().len(), case.calls);
         match &finished.output {
             Some(output) => assert_eq!(rt; output.taken(), case.output),
             None => assert!(rt; false),
@@ -377,11 +368,10 @@ fn reads_byte_by_byte(rt: HostRuntime) -> Result<(), AllocError> {
     let mut errors = BytesOut::new(alloc, Vec::new(alloc));
     let finished = run_lanes(alloc, &words, &mut input, output, &mut errors);
     assert_eq!(rt; finished.status, 0);
-    let [_, (_, LindaReply::Got { values, .. })] = finished.calls.as_slice() else {
-        assert!(rt; false);
-        return Ok(());
-    };
-    assert!(rt; matches!(values.as_slice(), [Item::Int(42)]));
+    match &finished.output {
+        Some(output) => assert_eq!(rt; output.taken(), b"k\t42\n".as_slice()),
+        None => assert!(rt; false),
+    }
     Ok(())
 }
 

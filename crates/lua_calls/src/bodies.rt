@@ -239,7 +239,8 @@ where
     requires within { at ≤ length m.old.stack.values }
     requires fewer { proto.now.params ≤ proto.now.slots }
     ensures { ManyOf H.asked (run_in p.now (level p.now b.now.level) line proto.now (frame_of
-        proto.now id.number line (drop at m.old.stack.values)) (world m.old)) m.old at result m.new }
+        proto.now id.number line (drop at m.old.stack.values)) (world m.old)) m.old at result
+        m.new }
 {
     if proto.vararg {
         run_vararg(b, m, p, line, id, proto, at)

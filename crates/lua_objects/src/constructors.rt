@@ -15,7 +15,8 @@ use object_store::{LuaFault, Table, TableId, Value};
 
 /// A new empty table. Where there may be no more tables it is a fault of this line.
 fn new_table<H: Host>(m: &mut Machine<H>, p: &Loaded, line: u32) -> Option<TableId>
-    ensures { (l : Level) (f : Frame) → FoundOf H.asked (spec.new_table p.now l f line (world m.old))
+    ensures { (l : Level) (f : Frame) → FoundOf H.asked
+        (spec.new_table p.now l f line (world m.old))
         m.old result m.new }
 {
     match m.state.reserve(1, 0, 0) {
@@ -54,7 +55,8 @@ where
         (M.pre b.now.multi) (M.post b.now.multi) (C.pre b.now.call) (C.post b.now.call)
         (S.pre b.now.stmt) (S.post b.now.stmt) }
     requires fits { Fits f.now m.old.stack }
-    ensures { UnitOf H.asked (spec.fields p.now (level p.now b.now.level) (frame f.now m.old.stack) line
+    ensures { UnitOf H.asked (spec.fields p.now (level p.now b.now.level)
+        (frame f.now m.old.stack) line
         id (pos 1) fields.now (world m.old)) m.old result m.new }
 {
     let n = fields.len();
@@ -90,7 +92,8 @@ where
         (M.pre b.now.multi) (M.post b.now.multi) (C.pre b.now.call) (C.post b.now.call)
         (S.pre b.now.stmt) (S.post b.now.stmt) }
     requires fits { Fits f.now m.old.stack }
-    ensures { OneOf H.asked (spec.constructed p.now (level p.now b.now.level) (frame f.now m.old.stack)
+    ensures { OneOf H.asked (spec.constructed p.now (level p.now b.now.level)
+        (frame f.now m.old.stack)
         line fields.now (world m.old)) m.old result m.new }
 {
     let Some(id) = new_table(m, p, line) else {

@@ -29,7 +29,8 @@ is_ready None op = false
 is_ready (Some linda) op = is_carried_out op && fits linda op
 
 -- a ready call was served, as the sequential linda has it
-pub record Serves (before after : List Content) (call : BankCall) (reply : LindaReply) : Type 0 where
+pub record Serves (before after : List Content) (call : BankCall) (reply : LindaReply) :
+    Type 0 where
   pub linda : Content
   pub next : Content
   pub found : slice_get before call.linda ≡ Some linda

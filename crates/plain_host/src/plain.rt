@@ -37,7 +37,11 @@ impl<O: Sink> Plain<O> {
     }
 
     fn print(&mut self, text: &[u8]) -> Answer
-        ensures { Answers (seen_of (O.taken self.old.output) (O.faults self.old.output) self.old.failed self.old.lindas.items) (Ask.Print text.now) result (seen_of (O.taken self.new.output) (O.faults self.new.output) self.new.failed self.new.lindas.items) }
+        ensures { Answers
+            (seen_of (O.taken self.old.output) (O.faults self.old.output) self.old.failed
+            self.old.lindas.items) (Ask.Print text.now) result
+            (seen_of (O.taken self.new.output) (O.faults self.new.output) self.new.failed
+            self.new.lindas.items) }
     {
         match write_text(text, &mut self.output) {
             Ok(()) => Answer::Printed,
@@ -49,7 +53,11 @@ impl<O: Sink> Plain<O> {
     }
 
     fn new_linda(&mut self) -> Answer
-        ensures { Answers (seen_of (O.taken self.old.output) (O.faults self.old.output) self.old.failed self.old.lindas.items) Ask.NewLinda result (seen_of (O.taken self.new.output) (O.faults self.new.output) self.new.failed self.new.lindas.items) }
+        ensures { Answers
+            (seen_of (O.taken self.old.output) (O.faults self.old.output) self.old.failed
+            self.old.lindas.items) Ask.NewLinda result
+            (seen_of (O.taken self.new.output) (O.faults self.new.output) self.new.failed
+            self.new.lindas.items) }
     {
         let number = self.lindas.len() as u64;
         match self.lindas.push(Linda::new(self.alloc)) {
@@ -59,8 +67,11 @@ impl<O: Sink> Plain<O> {
     }
 
     fn call(&mut self, call: &BankCall) -> Answer
-        ensures { (seconds : Option ℕ) → Answers (seen_of (O.taken self.old.output) (O.faults self.old.output) self.old.failed self.old.lindas.items) (Ask.Linda call.now seconds) result
-            (seen_of (O.taken self.new.output) (O.faults self.new.output) self.new.failed self.new.lindas.items) }
+        ensures { (seconds : Option ℕ) → Answers
+            (seen_of (O.taken self.old.output) (O.faults self.old.output) self.old.failed
+            self.old.lindas.items) (Ask.Linda call.now seconds) result
+            (seen_of (O.taken self.new.output) (O.faults self.new.output) self.new.failed
+            self.new.lindas.items) }
     {
         let alloc = self.alloc;
         match self.lindas.get_mut(call.linda as usize) {
@@ -93,7 +104,9 @@ fn is_carried_out(op: &LindaOp) -> bool
 impl<O: Sink> Ready for Plain<O> {
     ghost ready = { λ h. Unit {0} };
 
-    ghost asked = { λ h ask answer h1. Answers (seen_of (O.taken h.output) (O.faults h.output) h.failed h.lindas.items) ask answer (seen_of (O.taken h1.output) (O.faults h1.output) h1.failed h1.lindas.items) };
+    ghost asked = { λ h ask answer h1. Answers
+        (seen_of (O.taken h.output) (O.faults h.output) h.failed h.lindas.items) ask answer
+        (seen_of (O.taken h1.output) (O.faults h1.output) h1.failed h1.lindas.items) };
 
     fn ask(&mut self, ask: Ask) -> Answer {
         match ask {

@@ -1,4 +1,5 @@
-//! Runs the program of a script: in a new state in which the libraries are opened, as one lane alone.
+//! Runs the program of a script, as one lane alone, in a new state in which the libraries are
+//! opened.
 #![tactic(auto)]
 
 mod opening;
