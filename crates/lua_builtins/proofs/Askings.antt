@@ -1,5 +1,5 @@
 -- What follows an ask.
-use Rattle.std.proofs.Common.{◌≡◌, ◌⊎◌, inl, inr, ℕ, List, Result, Ok, Err, refl, sym, ap}
+use Rattle.std.proofs.Common.{◌≡◌, ◌⊎◌, inl, inr, List, Result, Ok, Err, refl, sym, ap}
 use Rattle.object_store.specs.declared.fault.LuaFault.TheVariants as lua
 use Rattle.object_store.specs.declared.value.Value.{Value}
 use Rattle.lanes_lib.specs.declared.ask.Ask.{Ask}
@@ -12,7 +12,7 @@ use Rattle.lanes_lib.specs.declared.ask.AskFault.{AskFault}
 use Rattle.lanes_lib.specs.declared.ask.AskFault.TheVariants as refused
 use Rattle.lanes_lib.specs.Face.{Wrong, taken, taken_print, taken_new, taken_linda, taken_reply}
 use Rattle.lua_meaning.specs.declared.fault.Site.{Site}
-use Rattle.lua_meaning.specs.Run.{Run, World, Next, Leads, reaches}
+use Rattle.lua_meaning.specs.Run.{World, Next, Leads, reaches}
 use Rattle.lua_meaning.specs.Level.{Loaded, Level}
 use Rattle.lua_meaning.specs.Library.{refuse, asking}
 use Rattle.lua_meaning.specs.Library as spec
@@ -20,7 +20,6 @@ use Rattle.lua_machine.specs.declared.machine.Machine.{Machine}
 use Rattle.lua_machine.specs.Does.{world, point}
 use Rattle.lua_machine.proofs.Leads.{from}
 use Rattle.lua_machine.proofs.Failures.{fault_leads, raise_leads, lost_leads}
-use Rattle.lua_builtins.specs.declared.asking.AskKind.{AskKind}
 use Rattle.lua_builtins.specs.declared.asking.AskKind.TheVariants as of
 use Rattle.lua_builtins.specs.Asking.{kind_is, Refusing}
 

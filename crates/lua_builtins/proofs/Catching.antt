@@ -1,5 +1,5 @@
 -- Calls that catch errors; faults that are no errors pass them.
-use Rattle.std.proofs.Common.{◌≡◌, ℕ, ◌∷◌, [], List, Result, Ok, Err, Some, None, refl, ap, ◌∙◌, drop, codes}
+use Rattle.std.proofs.Common.{◌≡◌, ◌∷◌, [], List, Ok, Err, Some, None, refl, ◌∙◌, drop, codes}
 use Rattle.std.specs.Prelude.{slice_get}
 use Rattle.object_store.specs.declared.value.Value.TheVariants as V
 use Rattle.object_store.specs.declared.fault.LuaFault.TheVariants as lua
@@ -14,7 +14,6 @@ use Rattle.lua_meaning.specs.declared.fault.Site.{Site}
 use Rattle.lua_meaning.specs.Run.{Run, World, Next, reaches}
 use Rattle.lua_meaning.specs.Level.{Loaded, Level}
 use Rattle.lua_meaning.specs.Library.{reading, inner, pcall, xpcall, caught, handled_by}
-use Rattle.lua_machine.specs.Piled.{Piled}
 use Rattle.lua_machine.specs.declared.machine.Machine.{Machine}
 use Rattle.lua_machine.specs.declared.machine.Got.{Got}
 use Rattle.lua_machine.specs.declared.machine.Got.TheVariants as G

@@ -1,11 +1,11 @@
 -- A call of a handler with one argument.
-use Rattle.std.proofs.Common.{◌≡◌, ℕ, ◌≤◌, Result, Ok, Err, Some, List, [], ◌∷◌, ◌++◌, length, take, drop, refl, sym, ap, ◌∙◌, arith, length-append}
+use Rattle.std.proofs.Common.{◌≡◌, ℕ, ◌≤◌, List, [], ◌∷◌, ◌++◌, length, take, drop, sym, ap, ◌∙◌, arith, length-append}
 use Rattle.std.proofs.Math.Seq.{take-length, drop-append_seam, take-append_seam}
 use Rattle.object_store.specs.declared.value.Value.{Value}
 use Rattle.lanes_lib.specs.declared.ask.Ask.{Ask}
 use Rattle.lanes_lib.specs.declared.ask.Answer.{Answer}
 use Rattle.lua_meaning.specs.declared.fault.Site.{Site}
-use Rattle.lua_meaning.specs.Run.{World, Run, Next, Leads, reaches}
+use Rattle.lua_meaning.specs.Run.{Next, Leads, reaches}
 use Rattle.lua_meaning.specs.Level.{Level}
 use Rattle.lua_machine.specs.Piled.{Piled, cut, with_values}
 use Rattle.lua_machine.specs.declared.machine.Machine.{Machine}

@@ -1,5 +1,5 @@
 -- What a function that calls nothing back gives, by what the base library answers.
-use Rattle.std.proofs.Common.{◌≡◌, ◌⊎◌, inl, inr, ℕ, List, Result, Ok, Err, Some, ap, sym}
+use Rattle.std.proofs.Common.{◌≡◌, ◌⊎◌, inl, inr, List, Ok, Err, Some}
 use Rattle.object_store.specs.declared.value.Value.{Value}
 use Rattle.object_store.specs.declared.fault.LuaFault.{LuaFault}
 use Rattle.object_store.specs.declared.fault.LuaFault.TheVariants as lua
@@ -11,11 +11,11 @@ use Rattle.base_lib.specs.Given.{IsDone, IsFault, given_values}
 use Rattle.lanes_lib.specs.declared.ask.Ask.{Ask}
 use Rattle.lanes_lib.specs.declared.ask.Answer.{Answer}
 use Rattle.lua_meaning.specs.declared.fault.Site.{Site}
-use Rattle.lua_meaning.specs.Run.{Run, World, Next, Leads, here, wrote, reaches}
+use Rattle.lua_meaning.specs.Run.{Run, Next, Leads, here, wrote, reaches}
 use Rattle.lua_meaning.specs.Level.{Loaded, Level}
 use Rattle.lua_meaning.specs.Library.{plain}
 use Rattle.lua_machine.specs.declared.machine.Machine.{Machine}
-use Rattle.lua_machine.specs.Does.{store_of, world, point}
+use Rattle.lua_machine.specs.Does.{world, point}
 use Rattle.lua_machine.specs.Failing.{FailingAt}
 use Rattle.lua_machine.proofs.Failures.{fault_leads, lost_leads}
 

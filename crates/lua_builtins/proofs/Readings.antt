@@ -1,9 +1,7 @@
 -- What is read of the arguments.
-use Rattle.std.proofs.Common.{◌≡◌, ℕ, ◌-◌, List, Option, Some, None, ap}
-use Rattle.std.specs.Prelude.{slice_get}
-use Rattle.object_store.specs.declared.value.Value.{Value}
+use Rattle.std.proofs.Common.{◌≡◌, ℕ, List, Option, Some, None, ap}
 use Rattle.object_store.specs.declared.fault.LuaFault.TheVariants as lua
-use Rattle.base_lib.specs.Base.{or_bad, any}
+use Rattle.base_lib.specs.Base.{or_bad}
 use Rattle.lua_meaning.specs.declared.fault.Site.{Site}
 use Rattle.lua_meaning.specs.Run.{World, Run, Next}
 use Rattle.lua_meaning.specs.Level.{Loaded, Level}

@@ -1,5 +1,5 @@
 -- Values that were received, one after another.
-use Rattle.std.proofs.Common.{◌≡◌, ℕ, ◌+◌, ◌<◌, ◌≤◌, ◌++◌, ◌∷◌, [], List, Ok, length, take, drop, get_or, refl, sym, ap, ◌∙◌, add-one, drop-cons, arith, length-append}
+use Rattle.std.proofs.Common.{◌≡◌, ℕ, ◌+◌, ◌<◌, ◌≤◌, ◌++◌, ◌∷◌, [], List, Ok, length, take, drop, get_or, sym, ap, ◌∙◌, add-one, drop-cons, arith, length-append}
 use Rattle.std.proofs.lemmas.List.{drop_all, drop-append-le, take-append-le}
 use Rattle.object_store.specs.declared.value.Value.{Value}
 use Rattle.linda_core.specs.declared.item.Item.{Item}

@@ -1,5 +1,5 @@
 -- Values that stand in place of arguments.
-use Rattle.std.proofs.Common.{◌≡◌, ℕ, ◌-◌, ◌≤◌, Ok, List, [], ◌∷◌, ◌++◌, length, take, drop, refl, sym, ap, ◌∙◌, arith, append_assoc, replicate}
+use Rattle.std.proofs.Common.{◌≡◌, ℕ, ◌-◌, ◌≤◌, List, [], ◌∷◌, ◌++◌, length, take, drop, refl, sym, ap, ◌∙◌, arith, append_assoc, replicate}
 use Rattle.std.proofs.Math.Seq.{drop-append_seam, take-append_seam}
 use Rattle.std.proofs.lemmas.List.{take-append-le}
 use Rattle.object_store.specs.declared.value.Value.{Value}
@@ -12,7 +12,7 @@ use Rattle.lua_machine.specs.Piled.{Piled, cut, with_values}
 use Rattle.lua_machine.specs.declared.machine.Machine.{Machine}
 use Rattle.lua_machine.specs.declared.machine.Got.{Got}
 use Rattle.lua_machine.specs.declared.machine.Got.TheVariants as G
-use Rattle.lua_machine.specs.Does.{Above, StackGot, ManyOf, world}
+use Rattle.lua_machine.specs.Does.{Above, StackGot}
 use Rattle.lua_machine.proofs.Windows.{from_seam, to_seam, seam_length, take_take, cut_length}
 use Rattle.lua_builtins.specs.Gives.{Gives}
 

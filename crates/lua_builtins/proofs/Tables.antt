@@ -1,6 +1,5 @@
 -- The table of the Lanes face.
-use Rattle.std.proofs.Common.{◌≡◌, ◌⊎◌, inl, inr, ℕ, ◌+◌, ◌-◌, ◌^◌, ◌<◌, ◌≤◌, ◌&&◌, ◌++◌, ◌∷◌, [], List, Option, Some, None, Result, Ok, Err, length, refl, sym, ap, ◌∙◌, arith, Bool, true, false, if◌then◌else◌, nat_le, codes}
-use Rattle.std.specs.Prelude.{slice_get}
+use Rattle.std.proofs.Common.{◌≡◌, ◌⊎◌, inl, inr, ℕ, ◌+◌, ◌-◌, ◌^◌, ◌<◌, ◌&&◌, ◌++◌, ◌∷◌, [], List, Option, Some, None, Ok, length, refl, ap, ◌∙◌, arith, Bool, true, false, if◌then◌else◌, nat_le, codes}
 use Rattle.std.specs.Option.{option_map}
 use Rattle.std.specs.Str.{bytes_eq}
 use Rattle.std.proofs.lemmas.Bool.Decides.{nat_tests}
@@ -21,7 +20,7 @@ use Rattle.lua_meaning.specs.Faults.{fault_at}
 use Rattle.lua_meaning.specs.Library.{reading, lanes_contents, lanes_heap, lanes_made, lanes_table, require}
 use Rattle.lua_machine.specs.Does.{store_of}
 use Rattle.lua_builtins.specs.Parts.{table_ahead}
-use Rattle.lua_builtins.proofs.Readings.{is_there, is_bad}
+use Rattle.lua_builtins.proofs.Readings.{is_bad}
 
 -- ---- room for one more table
 

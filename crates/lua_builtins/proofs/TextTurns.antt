@@ -1,5 +1,5 @@
 -- Texts of values.
-use Rattle.std.proofs.Common.{◌≡◌, ℕ, ◌+◌, ◌<◌, ◌≤◌, ◌++◌, ◌∷◌, [], List, Option, Some, None, Ok, Err, length, drop, get_or, refl, sym, ap, ◌∙◌, true, false, Bool, if◌then◌else◌, codes, add-one, drop-cons, arith}
+use Rattle.std.proofs.Common.{◌≡◌, ℕ, ◌+◌, ◌<◌, ◌≤◌, ◌++◌, ◌∷◌, [], List, Some, None, Ok, Err, length, drop, get_or, refl, sym, ap, ◌∙◌, true, false, if◌then◌else◌, codes, add-one, drop-cons}
 use Rattle.std.specs.Prelude.{slice_get, Result}
 use Rattle.std.specs.Result.{is_ok, is_err}
 use Rattle.std.specs.Option.{unwrap_or}
@@ -18,9 +18,9 @@ use Rattle.lua_meaning.specs.declared.fault.Site.{Site}
 use Rattle.lua_meaning.specs.Run.{World, Run, Next, here, and_then, interned}
 use Rattle.lua_meaning.specs.Level.{Loaded, Level}
 use Rattle.lua_meaning.specs.Faults.{fault_at}
-use Rattle.lua_meaning.specs.Library.{reading, text_of, to_text, to_text_by, to_string, print, print_rest, asked}
+use Rattle.lua_meaning.specs.Library.{text_of, to_text, to_text_by, to_string, print, print_rest, asked}
 use Rattle.lua_machine.specs.declared.machine.Machine.{Machine}
-use Rattle.lua_machine.specs.declared.machine.Done.TheVariants.{Well, Failed}
+use Rattle.lua_machine.specs.declared.machine.Done.TheVariants.{Well}
 use Rattle.lua_machine.specs.Does.{world}
 use Rattle.lua_machine.proofs.Windows.{drop_past}
 use Rattle.lua_builtins.specs.Gives.{TextOf}

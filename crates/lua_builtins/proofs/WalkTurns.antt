@@ -1,5 +1,5 @@
 -- What `pairs`, `ipairs_step` and `require` do, by their arguments.
-use Rattle.std.proofs.Common.{◌≡◌, ℕ, ◌∷◌, [], List, Option, Some, None, Ok, Err, refl, sym, ap, ◌∙◌, true, false, Bool, if◌then◌else◌, codes}
+use Rattle.std.proofs.Common.{◌≡◌, ◌∷◌, [], List, Some, None, Ok, refl, sym, ap, ◌∙◌, true, false, if◌then◌else◌, codes}
 use Rattle.std.specs.Prelude.{slice_get, ℤ, pos, ◌+ℤ◌}
 use Rattle.int_ops.specs.Wrapping.{wrapped}
 use Rattle.object_store.specs.declared.event.Event.TheVariants as event

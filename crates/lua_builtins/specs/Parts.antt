@@ -1,7 +1,6 @@
 -- Parts of the meaning of library functions, by name.
 use Rattle.std.specs.Prelude.{ℕ, length, List, [], ◌∷◌, Ok}
 use Rattle.object_store.specs.declared.value.Value.{Value}
-use Rattle.object_store.specs.declared.value.Value.TheVariants as V
 use Rattle.object_store.specs.Value.{TableId}
 use Rattle.lua_meaning.specs.declared.fault.Site.{Site}
 use Rattle.lua_meaning.specs.Run.{Run, World, Next, and_then}

@@ -1,4 +1,4 @@
-use Rattle.std.proofs.Common.{◌≡◌, ◌++◌, ◌∷◌, [], ap, sym, ◌∙◌, ◌+◌, take, drop, Some, length, arith, refl}
+use Rattle.std.proofs.Common.{◌≡◌, ◌++◌, ◌∷◌, [], ap, sym, ◌∙◌, ◌+◌, drop, Some, arith}
 use Rattle.lanes_lib.specs.Face.{item_pieces}
 use Rattle.lua_meaning.specs.Run.{lost, and_then}
 use Rattle.lua_meaning.specs.Levels.{past_last}

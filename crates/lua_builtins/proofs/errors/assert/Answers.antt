@@ -1,4 +1,4 @@
-use Rattle.std.proofs.Common.{ap, sym, ◌∙◌, drop, codes}
+use Rattle.std.proofs.Common.{sym, ◌∙◌, drop, codes}
 use Rattle.object_store.specs.declared.fault.LuaFault.TheVariants as lua
 use Rattle.lua_machine.specs.Does.{world}
 use Rattle.lua_machine.proofs.Leads.{from}

@@ -1,4 +1,4 @@
-use Rattle.std.proofs.Common.{◌≡◌, arith, refl, ap, sym, take, drop, ◌++◌, [], length, length-drop}
+use Rattle.std.proofs.Common.{◌≡◌, arith, refl, ap, sym, take, drop, ◌++◌, [], length-drop}
 use Rattle.std.proofs.lemmas.List.{drop-drop}
 use Rattle.std.proofs.Math.ListN.{drop_of_length-le}
 use Rattle.lua_meaning.specs.Run.{here}

@@ -1,5 +1,5 @@
-use Rattle.std.proofs.Common.{◌≡◌, sym, ap, ◌∙◌, length, None, codes}
-use Rattle.object_store.specs.Table.{Contents, contents_of}
+use Rattle.std.proofs.Common.{◌≡◌, sym, ap, ◌∙◌, length, None}
+use Rattle.object_store.specs.Table.{contents_of}
 use Rattle.lua_meaning.specs.Run.{lost, wrote}
 use Rattle.lua_meaning.specs.Library.{lanes_contents}
 use Rattle.lua_machine.specs.Does.{world}

@@ -1,4 +1,4 @@
-use Rattle.std.proofs.Common.{sym, ap, ◌∙◌, drop, codes, true, false, Some}
+use Rattle.std.proofs.Common.{sym, ap, ◌∙◌, drop, codes, Some}
 use Rattle.object_store.specs.declared.fault.LuaFault.TheVariants as lua
 use Rattle.lua_machine.specs.Does.{world}
 use Rattle.lua_machine.proofs.Leads.{from}

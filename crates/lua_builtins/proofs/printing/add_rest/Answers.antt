@@ -1,4 +1,4 @@
-use Rattle.std.proofs.Common.{◌≡◌, ap, sym, ◌∙◌, ◌++◌, ◌+◌, ◌∷◌, [], Some, drop, length, refl, codes, arith, add-zero}
+use Rattle.std.proofs.Common.{◌≡◌, ap, sym, ◌∙◌, ◌++◌, ◌+◌, Some, drop, length, refl, codes, arith, add-zero}
 use Rattle.std.specs.Prelude.{slice_get}
 use Rattle.lua_meaning.specs.Run.{here, lost, and_then}
 use Rattle.lua_meaning.specs.Levels.{level}

@@ -1,5 +1,4 @@
-use Rattle.std.proofs.Common.{ap, sym, ◌∙◌, ◌++◌, codes}
-use Rattle.lanes_lib.specs.declared.ask.Ask.TheVariants as ask
+use Rattle.std.proofs.Common.{sym, ◌∙◌}
 use Rattle.lua_meaning.specs.Run.{lost}
 use Rattle.lua_builtins.proofs.TextTurns.{if_fine}
 use Rattle.lua_builtins.proofs.printing.print_line.Goals as goal

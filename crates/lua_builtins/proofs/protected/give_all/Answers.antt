@@ -1,9 +1,6 @@
-use Rattle.std.proofs.Common.{ap, sym, ◌∙◌, ◌∷◌, drop}
+use Rattle.std.proofs.Common.{sym, ◌∙◌}
 use Rattle.object_store.specs.declared.value.Value.TheVariants as V
 use Rattle.lua_meaning.specs.Run.{lost}
-use Rattle.lua_meaning.specs.Expressions.{limited}
-use Rattle.lua_machine.specs.Does.{world}
-use Rattle.lua_machine.proofs.Leads.{from}
 use Rattle.lua_operands.proofs.Puts.{on_ok}
 use Rattle.lua_builtins.proofs.Stacks.{all_args, above_all}
 use Rattle.lua_builtins.proofs.protected.give_all.Goals as goal

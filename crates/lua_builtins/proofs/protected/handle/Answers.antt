@@ -1,4 +1,4 @@
-use Rattle.std.proofs.Common.{ap, sym, ◌∙◌, ◌∷◌, [], drop}
+use Rattle.std.proofs.Common.{ap, ◌∙◌}
 use Rattle.lua_meaning.specs.Run.{lost}
 use Rattle.lua_meaning.specs.Levels.{level}
 use Rattle.lua_meaning.specs.Library.{handled_by}

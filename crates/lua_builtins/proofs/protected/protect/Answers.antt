@@ -1,4 +1,3 @@
-use Rattle.std.proofs.Common.{ap, sym, ◌∙◌, drop}
 use Rattle.lua_meaning.specs.Levels.{level}
 use Rattle.lua_meaning.specs.Library.{caught}
 use Rattle.lua_machine.proofs.Leads.{leads_on}

@@ -1,4 +1,3 @@
-use Rattle.std.proofs.Common.{ap, sym, ◌∙◌, ◌∷◌, []}
 use Rattle.lua_meaning.specs.Run.{lost, and_then}
 use Rattle.lua_meaning.specs.Names.{first}
 use Rattle.lua_meaning.specs.Levels.{level}

@@ -1,7 +1,7 @@
-use Rattle.std.proofs.Common.{ap, sym, ◌∙◌, ◌∷◌, [], Ok, drop, codes, refl}
+use Rattle.std.proofs.Common.{ap, sym, ◌∙◌, ◌∷◌, [], Ok, drop, codes}
 use Rattle.lua_machine.specs.Piled.{cut}
 use Rattle.object_store.specs.declared.fault.LuaFault.TheVariants as lua
-use Rattle.lua_meaning.specs.Run.{and_then, interned}
+use Rattle.lua_meaning.specs.Run.{and_then}
 use Rattle.lua_meaning.specs.Levels.{level}
 use Rattle.lua_machine.specs.Does.{world}
 use Rattle.lua_machine.proofs.Leads.{from, leads_on}

@@ -1,4 +1,4 @@
-use Rattle.std.proofs.Common.{sym, ap, arith, length, Ok, Some}
+use Rattle.std.proofs.Common.{sym, Ok}
 use Rattle.lua_meaning.specs.Run.{lost, and_then}
 use Rattle.lua_meaning.specs.Names.{filled}
 use Rattle.lua_meaning.specs.Levels.{level}
