@@ -1,5 +1,5 @@
 //! Runs a script, and what a run ends with.
-ghost use Rattle.std.specs.Prelude.{◌≡◌, ◌×◌, ◌⊎◌, ◌≤◌, length, Some, Err, IfOk, IfErr};
+ghost use Rattle.std.specs.Prelude.{◌≡◌, ◌⊎◌, ◌≤◌, length, Some, Err, IfOk, IfErr};
 ghost use Rattle.lua_lexer.specs.Tokens.{Lexes};
 ghost use Rattle.lua_lexer.specs.View.{marks};
 ghost use Rattle.lua_scope.specs.Rules.{broken};

@@ -1,5 +1,5 @@
 -- A bank in which one linda answered.
-use Rattle.std.proofs.Common.{◌≡◌, ◌∙◌, ℕ, ◌<◌, ◌≤◌, arith, Bool, true, false, List, map, length, get_or, slice_get, slice_set, Option, Some, None, ap, sym, refl, nat_lt, true≢false}
+use Rattle.std.proofs.Common.{◌≡◌, ◌∙◌, ℕ, ◌<◌, ◌≤◌, Bool, true, false, List, map, length, get_or, slice_get, slice_set, Option, Some, None, ap, sym, refl, nat_lt, true≢false}
 use borrow.Author.Tests.{ltb-true, ltb-false}
 use Rattle.std.specs.Option.{option_map}
 use Rattle.std.proofs.lemmas.List.{map-set}

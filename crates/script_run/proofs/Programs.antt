@@ -1,5 +1,5 @@
 -- A run with the plain host, as the run of a program.
-use Rattle.std.proofs.Common.{◌≡◌, ◌⊎◌, inl, inr, ◌∙◌, ◌+◌, ◌-◌, ◌^◌, ◌<◌, ◌≤◌, ℕ, min, arith, List, [], ◌∷◌, Bool, true, false, Result, Ok, Err, Option, ap, sym, subst, refl, true≢false}
+use Rattle.std.proofs.Common.{◌≡◌, ◌⊎◌, inl, inr, ◌∙◌, ◌<◌, ◌≤◌, ℕ, arith, List, [], ◌∷◌, Bool, true, false, Result, Ok, Err, Option, ap, sym, subst, refl, true≢false}
 use Rattle.std.specs.List.{FoldsTo}
 use Rattle.lua_program.specs.declared.program.Program.{Program}
 use Rattle.object_store.specs.Heap.{Shown}
@@ -13,7 +13,7 @@ use Rattle.lua_meaning.specs.declared.fault.Fault.{Fault}
 use Rattle.lua_meaning.specs.declared.fault.Fault.TheVariants as F
 use Rattle.lua_meaning.specs.Run.{Run, Store, World}
 use Rattle.lua_meaning.specs.Whole.{Ran}
-use Rattle.outside.specs.Faults.{Rose, one_more}
+use Rattle.outside.specs.Faults.{Rose}
 use Rattle.linda_core.specs.Holding.{Holding}
 use Rattle.plain_host.specs.declared.plain.Plain.{Plain}
 use Rattle.plain_host.specs.Plain.{Answers, Seen, seen_of}

@@ -11,7 +11,7 @@ use Rattle.lua_meaning.specs.declared.fault.Fault.{Fault}
 use Rattle.lua_meaning.specs.declared.fault.Fault.TheVariants as F
 use Rattle.lua_meaning.specs.Run.{Store, World}
 use Rattle.lua_meaning.specs.Whole.{meant, Ran}
-use Rattle.plain_host.specs.Plain.{Answers, Seen}
+use Rattle.plain_host.specs.Plain.{Answers}
 use Rattle.script_run.specs.declared.script.ProgramEnd.{ProgramEnd}
 use Rattle.script_run.specs.declared.script.ProgramEnd.TheVariants as E
 use Rattle.script_run.specs.Opening.{IsOpening}

@@ -1,10 +1,6 @@
-use Rattle.std.specs.Arc.{arc_value}
-use Rattle.std.proofs.Common.{refl, map, subst}
+use Rattle.std.proofs.Common.{map}
 use Rattle.linda_core.specs.Holding.{content}
 use Rattle.lua_machine.specs.Does.{store_of}
-use Rattle.lua_meaning.specs.Whole.{Ran, meant}
-use Rattle.plain_host.specs.Plain.{Answers, seen_of}
-use Rattle.script_run.specs.Running.{function, steps, RunsProgram}
 use Rattle.script_run.proofs.Programs.{told, seen_program, begun}
 use Rattle.script_run.proofs.script.call_main.Goals as goal
 

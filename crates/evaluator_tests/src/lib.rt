@@ -1,0 +1,5 @@
+//! Tests of `evaluator`.
+#![tactic(auto)]
+
+#[cfg(test)]
+mod runs;
