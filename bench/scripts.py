@@ -119,7 +119,7 @@ def main():
         ("sends and receives by turns, one key", first_form(1)),
         ("sends and receives by turns, 10,000 keys", first_form(10_000)),
         ("all sends of one key, then all receives", sends_first()),
-        ("Lua code (read, parsed and bound, and refused as not built yet)", real_looking()),
+        ("Lua code (its functions are declared, and none is called)", real_looking()),
         ("the same and a bad byte (read, and refused at its end without being parsed)", real_looking() + "@"),
         *shapes(),
     ]

@@ -79,7 +79,8 @@ def run(case):
 def run_row(row):
     """Runs a row, and answers what differs, as lines. A script without a fault is to be accepted, and returns at once."""
     script, fault = row
-    script = script if fault else f"do return end {script}"
+    first = script.find("\n") + 1 if script.startswith("#") else 0
+    script = script if fault else f"{script[:first]}do return end {script[first:]}"
     wanted = f"lanes: stdin:{fault}\n" if fault else ""
     status = 3 if fault else 0
     try:
