@@ -22,7 +22,7 @@ OPENING = 'local lanes = require "lanes" local l = lanes.linda()\n'
 LIMIT = 1_048_576
 
 
-def first_form(keys):
+def by_turns(keys):
     """Sends and receives by turns over so many keys, up to the limit."""
     names = ["".join(chr(97 + (n // 26 ** place) % 26) for place in range(4)) for n in range(keys)]
     lines, size, turn = [OPENING], len(OPENING), 0
@@ -116,8 +116,8 @@ def peak(command):
 def main():
     runs = int(sys.argv[1]) if len(sys.argv) > 1 else 10
     scripts = [
-        ("sends and receives by turns, one key", first_form(1)),
-        ("sends and receives by turns, 10,000 keys", first_form(10_000)),
+        ("sends and receives by turns, one key", by_turns(1)),
+        ("sends and receives by turns, 10,000 keys", by_turns(10_000)),
         ("all sends of one key, then all receives", sends_first()),
         ("Lua code (its functions are declared, and none is called)", real_looking()),
         ("the same and a bad byte (read, and refused at its end without being parsed)", real_looking() + "@"),
