@@ -1,5 +1,5 @@
 -- The steps of the opening of the base library, and how many tables they leave.
-use Rattle.std.proofs.Common.{◌≡◌, ◌∙◌, ◌↔◌, ◌<◌, ℕ, List, [], ◌∷◌, ◌++◌, length, length-append, map, codes, ap, arith, refl, subst, sym, Option, None, IfSome, Result, Ok, Err, IsErrAnd}
+use Rattle.std.proofs.Common.{◌≡◌, ◌∙◌, ◌↔◌, ◌<◌, ℕ, List, [], ◌∷◌, ◌++◌, length, length-append, map, codes, ap, arith, refl, subst, sym, Bool, true, false, Option, None, IfSome, Result, Ok, Err, IsErrAnd}
 use Rattle.std.proofs.lemmas.List.Elements.{All-nil, All-same}
 use Rattle.lanes_arena.specs.declared.arena.ArenaFault.{ArenaFault}
 use Rattle.lanes_arena.specs.declared.arena.ArenaFault.TheVariants as arena
@@ -12,9 +12,9 @@ use Rattle.std.proofs.lemmas.List.{length-set}
 use Rattle.lanes_arena.specs.Names.{named}
 use Rattle.object_store.specs.declared.value.Value.{Value}
 use Rattle.object_store.specs.Table.{Contents}
-use Rattle.object_store.specs.Heap.{Heap, Room, Shown}
+use Rattle.object_store.specs.Heap.{Heap, Room, Shown, raised_room}
 use Rattle.base_lib.specs.Given.{interned}
-use Rattle.base_lib.specs.Open.{table_value, with_text, with_field, with_fields, function_field, base_functions, version, opened_base}
+use Rattle.base_lib.specs.Open.{table_value, with_text, with_field, with_fields, function_field, base_functions, version, opened_base, opened_if, with_room}
 
 opened_at : ℕ → Shown → Shown
 opened_at n s =
@@ -68,3 +68,15 @@ full_through arena.Full (Ok x) P gives full = absurd gives
 full_through arena.Memory (Ok x) P gives full = absurd gives
 full_through arena.Full (Err fault) P gives full = (λ same. full.0 refl, λ p. ap Err gives)
 full_through arena.Memory (Err fault) P gives full = (λ same. absurd (cc), λ p. let e = full.1 p in absurd (cc))
+
+pub opened_if-holds : (found opened : Bool) (go : Shown → Shown) (old new : Shown) → found ≡ true → found ≡ opened → new ≡ go old → new ≡ opened_if opened go old
+opened_if-holds found opened go old new held same e = e ∙ ap (λ b. opened_if b go old) (sym held ∙ same)
+
+pub opened_if-fails : (found opened : Bool) (go : Shown → Shown) (old : Shown) → found ≡ false → found ≡ opened → old ≡ opened_if opened go old
+opened_if-fails found opened go old failed same = ap (λ b. opened_if b go old) (sym failed ∙ same)
+
+-- the state in which room was made
+pub roomed : (new old : Shown) (n m : ℕ) → new.heap ≡ old.heap → new.texts ≡ old.texts → new.room ≡ raised_room old.room n 0 0 → n ≡ m → new ≡ with_room m old
+roomed new old n m heap texts room count =
+    (λ i. record { heap = heap i; texts = texts i; room = room i })
+    ∙ ap (λ k. with_room k old) count

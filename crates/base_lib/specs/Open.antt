@@ -1,10 +1,11 @@
 -- What a state is once a library is open (Lua 5.4 manual, sections 6.1 and 6.7). Fields are set in
 -- the order in which they stand here, and the name of each is interned before it is set.
-use Rattle.std.specs.Prelude.{ℕ, ◌+◌, ◌-◌, ◌^◌, ◌<◌, ◌⊎◌, ℤ, pos, negsuc, length, map, List, [], ◌∷◌, ◌++◌, None, codes}
+use Rattle.std.specs.Prelude.{ℕ, ◌+◌, ◌-◌, ◌^◌, ◌<◌, ◌⊎◌, ℤ, pos, negsuc, length, map, List, [], ◌∷◌, ◌++◌, None, codes, Bool, not, nat_eq, bit_and, if◌then◌else◌}
 use Rattle.lanes_arena.specs.Names.{named}
 use Rattle.object_store.specs.declared.value.Value.{Value}
 use Rattle.object_store.specs.declared.value.Value.TheVariants as V
 use Rattle.object_store.specs.Heap.{Shown, raised_room}
+use Rattle.base_lib.specs.declared.open.TheConstants.{BASE, MATH}
 use Rattle.base_lib.specs.Base.{with_pair}
 use Rattle.base_lib.specs.Given.{interned}
 use Rattle.base_lib.specs.Shown.{library_name}
@@ -38,10 +39,10 @@ function_field number = (library_name number, V.Lib (record { number = number })
 -- ---- base
 
 -- assert, error, getmetatable, ipairs, next, pairs, pcall, print, rawequal, rawget, rawlen, rawset,
--- require, select, setmetatable, tonumber, tostring, type, xpcall, and cancel_test
+-- require, select, setmetatable, tonumber, tostring, type and xpcall
 abbrev pub base_functions : List ℕ
 base_functions =
-    0 ∷ 1 ∷ 2 ∷ 3 ∷ 5 ∷ 6 ∷ 7 ∷ 8 ∷ 9 ∷ 10 ∷ 11 ∷ 12 ∷ 13 ∷ 14 ∷ 15 ∷ 16 ∷ 17 ∷ 18 ∷ 19 ∷ 52 ∷ []
+    0 ∷ 1 ∷ 2 ∷ 3 ∷ 5 ∷ 6 ∷ 7 ∷ 8 ∷ 9 ∷ 10 ∷ 11 ∷ 12 ∷ 13 ∷ 14 ∷ 15 ∷ 16 ∷ 17 ∷ 18 ∷ 19 ∷ []
 
 abbrev pub version : List ℕ
 version = codes "Lua 5.4"
@@ -94,3 +95,46 @@ opened_math s =
     let number = length s.heap.tables in
     let filled = with_fields number (with_new_table s) math_fields in
     with_field 0 filled (codes "math") (table_value number)
+
+-- ---- the libraries of some bits
+
+-- whether the bit of a library is among these
+abbrev pub opens : ℕ → ℕ → Bool
+opens libs library = not (nat_eq (bit_and libs library) 0)
+
+-- base has no table of its own
+abbrev pub tables_of : ℕ → ℕ
+tables_of libs = if opens libs MATH then 1 else 0
+
+-- the state once there is room for more tables
+abbrev pub with_room : ℕ → Shown → Shown
+with_room n s = record s { room = raised_room s.room n 0 0 }
+
+-- there are no numbers left for more tables; there are never more functions or cells than numbers
+abbrev pub HasNoNumbers : ℕ → Shown → Type 0
+HasNoNumbers n s =
+    (2 ^ 32 - 1 < length s.heap.tables + n) ⊎ (2 ^ 32 - 1 < length s.heap.functions + 0)
+    ⊎ (2 ^ 32 - 1 < length s.heap.cells + 0)
+
+abbrev pub opened_if : Bool → (Shown → Shown) → Shown → Shown
+opened_if opened go s = if opened then go s else s
+
+unfoldable pub with_base : ℕ → Shown → Shown
+with_base libs s = opened_if (opens libs BASE) opened_base s
+
+unfoldable pub with_math : ℕ → Shown → Shown
+with_math libs s = opened_if (opens libs MATH) opened_math s
+
+unfoldable pub with_cancel_test : Shown → Shown
+with_cancel_test s =
+    let field = function_field 52 in
+    with_field 0 s field.0 field.1
+
+-- the state once the libraries of these bits are open: base, `cancel_test`, which is always a
+-- global, and math
+abbrev pub opened_each : ℕ → Shown → Shown
+opened_each libs s = with_math libs (with_cancel_test (with_base libs s))
+
+-- and room was made for their tables before
+abbrev pub opened_libs : ℕ → Shown → Shown
+opened_libs libs s = opened_each libs (with_room (tables_of libs) s)

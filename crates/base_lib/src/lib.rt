@@ -17,5 +17,5 @@ mod tables;
 pub use dispatch::call;
 pub use functions::BaseFn;
 pub use given::Given;
-pub use open::{open_base, open_math};
+pub use open::{BASE, MATH, open_libs};
 pub use shown::{library_name, push_shown};

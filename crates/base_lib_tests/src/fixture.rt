@@ -1,5 +1,5 @@
 //! A state with some tables, for each row anew.
-use base_lib::{Given, open_base};
+use base_lib::{BASE, Given, open_libs};
 use lanes_arena::Memory;
 use object_store::{Event, LibId, LightId, LuaFault, State, Table, TableId, Value};
 use std::alloc::Global;
@@ -79,7 +79,7 @@ fn add_guarded(alloc: Global, state: &mut State) -> Result<TableId, LuaFault> {
 }
 
 fn add_tables(alloc: Global, state: &mut State) -> Result<Tables, LuaFault> {
-    open_base(state)?;
+    open_libs(alloc, state, BASE)?;
     let list = add(alloc, state)?;
     fill(state, list)?;
     let object = add(alloc, state)?;

@@ -1,11 +1,11 @@
 //! What the globals have once the libraries are open.
-use base_lib::{library_name, open_base, open_math};
+use base_lib::{BASE, MATH, library_name, open_libs};
 use object_store::{LuaFault, State, TableId, Value};
 use std::alloc::Global;
 use std::test::Fail;
 
-/// The names of the globals in their order.
-const GLOBALS: &[&str] = &[
+/// The names that base adds to the globals, in their order.
+const BASE_NAMES: &[&str] = &[
     "_G",
     "_VERSION",
     "assert",
@@ -27,12 +27,10 @@ const GLOBALS: &[&str] = &[
     "tostring",
     "type",
     "xpcall",
-    "cancel_test",
-    "math",
 ];
 
 /// The names of math in their order.
-const MATH: &[&str] = &[
+const MATH_NAMES: &[&str] = &[
     "abs",
     "floor",
     "max",
@@ -44,28 +42,34 @@ const MATH: &[&str] = &[
     "ult",
 ];
 
-/// Whether the table has just these keys in this order, and under each a function of that name, or
-/// a value that is none.
-fn has_keys(state: &State, id: TableId, names: &[&str]) -> bool {
-    let Some(table) = state.table_of(id) else {
-        return false;
-    };
-    let mut key = Value::Nil;
+/// The key after this one, where the names of the table go on so, and under each a function of that
+/// name, or a value that is none.
+fn after_names(state: &State, id: TableId, from: Value, names: &[&str]) -> Option<Value> {
+    let table = state.table_of(id)?;
+    let mut key = from;
     for name in names {
         let Ok(Some((next, value))) = table.next(key) else {
-            return false;
+            return None;
         };
         if state.find(name.as_bytes()) != Some(next) {
-            return false;
+            return None;
         }
         if let Value::Lib(function) = value
             && library_name(function) != *name
         {
-            return false;
+            return None;
         }
         key = next;
     }
-    matches!(table.next(key), Ok(None))
+    Some(key)
+}
+
+/// Whether the table has no pair after this key.
+fn ends_at(state: &State, id: TableId, key: Value) -> bool {
+    match state.table_of(id) {
+        Some(table) => matches!(table.next(key), Ok(None)),
+        None => false,
+    }
 }
 
 /// The value of a field.
@@ -76,48 +80,101 @@ fn field(state: &State, id: TableId, name: &str) -> Value {
     }
 }
 
-/// Opens both libraries.
-fn open(alloc: Global, state: &mut State) -> Result<(), LuaFault> {
-    open_base(state)?;
-    open_math(alloc, state)
+/// The last of base's names among the globals where base is open, else nil.
+fn after_base(state: &State, globals: TableId, base: bool) -> Option<Value> {
+    if base {
+        return after_names(state, globals, Value::Nil, BASE_NAMES);
+    }
+    Some(Value::Nil)
 }
 
-/// Whether the globals are as they should be, once the libraries are open.
-fn has_globals(alloc: Global, state: &mut State) -> Result<bool, LuaFault> {
-    open(alloc, state)?;
+/// The name after `cancel_test` where math is open, else that name.
+fn after_math(state: &State, globals: TableId, key: Value, math: bool) -> Option<Value> {
+    let key = after_names(state, globals, key, CANCEL_TEST)?;
+    if math {
+        return after_names(state, globals, key, MATH_TABLE);
+    }
+    Some(key)
+}
+
+/// Whether the globals have the names of base, `cancel_test` and math, each where its library is
+/// open, and no other.
+fn has_globals(state: &State, base: bool, math: bool) -> bool {
+    let globals = state.globals();
+    let Some(key) = after_base(state, globals, base) else {
+        return false;
+    };
+    match after_math(state, globals, key, math) {
+        Some(last) => ends_at(state, globals, last),
+        None => false,
+    }
+}
+
+/// Whether base's fields that are no functions are as they should be.
+fn has_base_values(state: &mut State) -> Result<bool, LuaFault> {
     let version = state.intern(b"Lua 5.4")?;
     let globals = state.globals();
     Ok(
-        has_keys(state, globals, GLOBALS)
-            && field(state, globals, "_G") == Value::Table(globals)
+        field(state, globals, "_G") == Value::Table(globals)
             && field(state, globals, "_VERSION") == version,
     )
 }
 
-/// Whether math is as it should be, once the libraries are open.
-fn has_math(alloc: Global, state: &mut State) -> Result<bool, LuaFault> {
-    open(alloc, state)?;
-    match field(state, state.globals(), "math") {
-        Value::Table(math) => Ok(
-            math.number() == 1
-                && has_keys(state, math, MATH)
-                && field(state, math, "maxinteger") == Value::Int(i64::MAX)
-                && field(state, math, "mininteger") == Value::Int(i64::MIN),
-        ),
-        _ => Ok(false),
+/// Whether math is as it should be.
+fn has_math(state: &State) -> bool {
+    let Value::Table(math) = field(state, state.globals(), "math") else {
+        return false;
+    };
+    let Some(last) = after_names(state, math, Value::Nil, MATH_NAMES) else {
+        return false;
+    };
+    math.number() == 1
+        && ends_at(state, math, last)
+        && field(state, math, "maxinteger") == Value::Int(i64::MAX)
+        && field(state, math, "mininteger") == Value::Int(i64::MIN)
+}
+
+const CANCEL_TEST: &[&str] = &["cancel_test"];
+
+const MATH_TABLE: &[&str] = &["math"];
+
+/// Some bits, and whether base and math are open then.
+const OPENINGS: &[(u8, bool, bool)] = &[
+    (0, false, false),
+    (BASE, true, false),
+    (MATH, false, true),
+    (BASE + MATH, true, true),
+    (64, false, false),
+    (128 + BASE, true, false),
+    (255, true, true),
+];
+
+/// Whether base's fields are as they should be, where base is open.
+fn base_is_right(state: &mut State, base: bool) -> Result<bool, LuaFault> {
+    if base {
+        return has_base_values(state);
     }
+    Ok(true)
+}
+
+/// Whether a new state is as it should be once the libraries of these bits are open.
+fn opens_so(alloc: Global, opening: (u8, bool, bool)) -> Result<bool, LuaFault> {
+    let (libs, base, math) = opening;
+    let mut state = State::new(alloc, 1)?;
+    open_libs(alloc, &mut state, libs)?;
+    if !has_globals(&state, base, math) {
+        return Ok(false);
+    }
+    if !base_is_right(&mut state, base)? {
+        return Ok(false);
+    }
+    Ok(!math || has_math(&state))
 }
 
 #[test]
-fn the_globals_stand_in_order(rt: HostRuntime) -> Result<(), Fail> {
-    let mut state = State::new(rt.alloc(), 1)?;
-    assert!(rt; has_globals(rt.alloc(), &mut state)?);
-    Ok(())
-}
-
-#[test]
-fn math_has_its_fields(rt: HostRuntime) -> Result<(), Fail> {
-    let mut state = State::new(rt.alloc(), 1)?;
-    assert!(rt; has_math(rt.alloc(), &mut state)?);
+fn each_set_of_bits_opens_its_libraries(rt: HostRuntime) -> Result<(), Fail> {
+    for opening in OPENINGS {
+        assert!(rt; opens_so(rt.alloc(), *opening)?);
+    }
     Ok(())
 }

@@ -1,5 +1,4 @@
 pub mod Texts
 pub mod Diaries
 pub mod Fills
-pub mod Levels
 pub mod Ends

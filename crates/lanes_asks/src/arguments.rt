@@ -1,7 +1,8 @@
 //! The arguments of the face's functions.
-ghost use Rattle.std.specs.Prelude.{◌≡◌, drop};
+ghost use Rattle.std.specs.Prelude.{◌≡◌, drop, Ok};
 ghost use Rattle.lanes_lib.specs.Face as face;
 ghost use Rattle.lanes_asks.specs.Asks.{Says, map_ok};
+ghost use Rattle.linda_core.specs.Items.{leaf_item};
 
 use crate::faults::{bad_handle, no_memory};
 use lanes_arena::{Bytes, Row};
@@ -9,6 +10,7 @@ use lanes_lib::AskFault;
 use linda_core::{Item, Key};
 use lua_ops::text_at;
 use object_store::{LuaFault, State, Value};
+use parcel::Leaf;
 use std::alloc::Global;
 
 /// The number of the linda that the first argument of a function of this name is.
@@ -107,14 +109,24 @@ pub fn first_key<'a>(
     }
 }
 
+/// What is sent of a value without parts.
+fn item_of_leaf(alloc: Global, leaf: Leaf) -> Result<Item, AskFault>
+    ensures { Says (Ok (leaf_item leaf)) result }
+{
+    match Item::of_leaf(alloc, leaf) {
+        Ok(item) => Ok(item),
+        Err(_) => Err(no_memory()),
+    }
+}
+
 /// What is sent of a value: an integer or the bytes of a string. No other kind is sent yet.
 fn item_of(alloc: Global, state: &State, value: Value) -> Result<Item, AskFault>
     ensures { Says (face.item_of state.now.texts value) result }
 {
     match value {
-        Value::Int(n) => Ok(Item::Int(n)),
+        Value::Int(n) => item_of_leaf(alloc, Leaf::Int(n)),
         Value::Str(id) => match Bytes::of(alloc, text_at(state, id)) {
-            Ok(text) => Ok(Item::Text(text)),
+            Ok(text) => item_of_leaf(alloc, Leaf::Text(text)),
             Err(_) => Err(no_memory()),
         },
         _ => Err(AskFault::NotBuilt),

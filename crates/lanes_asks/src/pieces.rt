@@ -5,6 +5,7 @@ ghost use Rattle.lanes_asks.specs.Pieces.{piece_of, pieces_of};
 
 use linda_core::{Item, Key, LindaReply};
 use object_store::Value;
+use parcel::Leaf;
 
 /// A value that a reply gives, or the text of a string that is interned first.
 #[derive(Clone, Copy, Debug)]
@@ -26,9 +27,10 @@ fn key_piece(key: &Key) -> Piece<'_>
 fn item_piece(item: &Item) -> Piece<'_>
     ensures { piece_of result ≡ face.item_piece item.now }
 {
-    match item {
-        Item::Int(n) => Piece::Plain(Value::Int(*n)),
-        Item::Text(text) => Piece::Text(text.as_slice()),
+    match item.only_root() {
+        Some(Leaf::Int(n)) => Piece::Plain(Value::Int(*n)),
+        Some(Leaf::Text(text)) => Piece::Text(text.as_slice()),
+        _ => Piece::Plain(Value::Nil),
     }
 }
 

@@ -3,8 +3,9 @@ use crate::fixture::{Argument, values};
 use lanes_arena::Memory;
 use lanes_asks::ask_of;
 use lanes_lib::{Ask, AskFault, LanesFn};
-use linda_core::{Item, Key, LindaOp};
+use linda_core::{Key, LindaOp};
 use object_store::{LuaFault, State};
+use parcel::Leaf;
 use std::alloc::Global;
 use std::test::Fail;
 
@@ -34,8 +35,11 @@ fn is_wanted_send(ask: &Ask) -> bool {
     let Key::Text(name) = key else {
         return false;
     };
-    match values.as_slice() {
-        [Item::Int(5), Item::Text(text)] => {
+    let [number, word] = values.as_slice() else {
+        return false;
+    };
+    match (number.only_root(), word.only_root()) {
+        (Some(Leaf::Int(5)), Some(Leaf::Text(text))) => {
             call.linda == 3
                 && name.as_slice() == b"k".as_slice()
                 && text.as_slice() == b"x".as_slice()

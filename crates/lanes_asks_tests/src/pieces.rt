@@ -2,6 +2,7 @@
 use lanes_arena::{Bytes, Memory, Row};
 use lanes_asks::{piece_at, piece_count};
 use linda_core::{Item, Key, LindaReply};
+use parcel::Leaf;
 use std::alloc::Global;
 use std::test::Fail;
 
@@ -23,8 +24,9 @@ fn shown(alloc: Global, reply: &LindaReply) -> Result<String, Memory> {
 /// What a receive of 5 and "xy" under this key replies.
 fn got(alloc: Global, key: Key) -> Result<LindaReply, Memory> {
     let mut values = Row::new(alloc);
-    values.push(Item::Int(5))?;
-    values.push(Item::Text(Bytes::of(alloc, b"xy")?))?;
+    values.push(Item::of_leaf(alloc, Leaf::Int(5))?)?;
+    let text = Leaf::Text(Bytes::of(alloc, b"xy")?);
+    values.push(Item::of_leaf(alloc, text)?)?;
     Ok(LindaReply::Got { key, values })
 }
 

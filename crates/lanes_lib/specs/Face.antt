@@ -8,8 +8,11 @@ use Rattle.object_store.specs.declared.fault.LuaFault.{LuaFault}
 use Rattle.object_store.specs.declared.fault.LuaFault.TheVariants as lua
 use Rattle.object_store.specs.Value.{value_of_bool}
 use Rattle.object_store.specs.FaultText.{fault_text}
+use Rattle.parcel.specs.declared.leaf.Leaf.{Leaf}
+use Rattle.parcel.specs.declared.leaf.Leaf.TheVariants as leaf
+use Rattle.parcel.specs.Roots.{only_root}
 use Rattle.linda_core.specs.declared.item.Item.{Item}
-use Rattle.linda_core.specs.declared.item.Item.TheVariants as item
+use Rattle.linda_core.specs.Items.{leaf_item}
 use Rattle.linda_core.specs.declared.key.Key.{Key}
 use Rattle.linda_core.specs.declared.key.Key.TheVariants as key
 use Rattle.linda_core.specs.declared.call.LindaOp.{LindaOp}
@@ -88,8 +91,8 @@ first_key texts [] = Err (fault.Lua lua.BadKey)
 first_key texts (v ∷ vs) = then_ask (key_of texts v) (λ k. Ok (k, vs))
 
 abbrev pub item_of : Texts → Value → Result Item AskFault
-item_of texts (V.Int n) = Ok (item.Int n)
-item_of texts (V.Str id) = Ok (item.Text (text_at texts id.number))
+item_of texts (V.Int n) = Ok (leaf_item (leaf.Int n))
+item_of texts (V.Str id) = Ok (leaf_item (leaf.Text (text_at texts id.number)))
 item_of texts v = Err fault.NotBuilt
 
 abbrev pub items_of : Texts → List Value → Result (List Item) AskFault
@@ -149,9 +152,14 @@ key_piece (key.Int n) = Plain (V.Int n)
 key_piece (key.Text t) = Text t
 key_piece (key.Bool b) = Plain (value_of_bool b)
 
+-- no other value is sent yet
+abbrev pub root_piece : Option Leaf → Piece
+root_piece (Some (leaf.Int n)) = Plain (V.Int n)
+root_piece (Some (leaf.Text t)) = Text t
+root_piece root = Plain V.Nil
+
 abbrev pub item_piece : Item → Piece
-item_piece (item.Int n) = Plain (V.Int n)
-item_piece (item.Text t) = Text t
+item_piece item = root_piece (only_root item)
 
 abbrev pub item_pieces : List Item → List Piece
 item_pieces [] = []

@@ -5,7 +5,7 @@ use linda_core::{BankCall, LindaReply};
 use object_store::LuaFault;
 
 /// What a lane asks of its host.
-#[derive(Debug, Drop)]
+#[derive(Drop)]
 pub enum Ask {
     /// These bytes are written to the output, all or none of them in one write.
     Print(Bytes),
@@ -19,7 +19,7 @@ pub enum Ask {
 }
 
 /// What a host answers.
-#[derive(Debug, Drop)]
+#[derive(Drop)]
 pub enum Answer {
     /// To a print.
     Printed,

@@ -1,12 +1,15 @@
 -- The content of a map of queues, look-up by look-up and write by write.
-use Rattle.std.proofs.Common.{◌≡◌, ◌+◌, ◌≤◌, ℕ, zero, suc, Bool, true, false, cond, if◌then◌else◌, List, [], ◌∷◌, length, slice_get, Option, None, Some, Result, Ok, Err, IsOk, OnOk, refl, ap, sym, ◌∙◌, true≢false, arith}
+use Rattle.std.proofs.Common.{◌≡◌, ◌+◌, ◌≤◌, ◌<◌, position, is_some, ℕ, zero, suc, Bool, true, false, cond, if◌then◌else◌, List, [], ◌∷◌, length, slice_get, Option, None, Some, Result, Ok, Err, IsOk, OnOk, refl, ap, sym, ◌∙◌, true≢false, arith}
 use Rattle.std.specs.Map.{lookup, keys_of, values_of}
 use Rattle.std.specs.Option.{unwrap_or, option_map}
 use Rattle.indexmap.specs.IndexMap.{insert_entry, set_value_at}
+use Rattle.indexmap.proofs.MapLemmas.{insert_entry-first, Found-position}
 use Rattle.linda_core.specs.declared.key.Key.{Key}
 use Rattle.linda_core.specs.Queue.{Queued}
-use Rattle.linda_core.specs.SequentialLinda.{key_eq, held_by, nothing, Known}
-use Rattle.linda_core.specs.Holding.{known_of, seen, HasRoomAt}
+use Rattle.linda_core.specs.declared.content.Known.{Known}
+use Rattle.linda_core.specs.SequentialLinda.{key_eq, held_by, queue_of, with_held, nothing}
+use Rattle.linda_core.specs.Holding.{known_of, seen}
+use Rattle.linda_core.specs.Rooms.{HasRoomAt, HasValuesAt, changed_at, queue_at}
 
 -- a look-up
 lookup_step : (b : Bool) (q : Queued) (r : Option Known) (s : Option Queued) → r ≡ option_map known_of s → cond b (Some (known_of q)) r ≡ option_map known_of (cond b (Some q) s)
@@ -71,3 +74,67 @@ room_at es i more old new there same (Ok u) h = record {
   there = values_of-set_value_at es i old new there;
   room = omega (arith, h, ap length same);
 }
+
+-- ---- changes at a place
+
+pub seen-changed : (es : List (Key × Queued)) (i : ℕ) (change : Known → Known) (old new : Queued) → slice_get (values_of es) i ≡ Some old → known_of new ≡ change (known_of old) → seen (set_value_at es i new) ≡ changed_at i change (seen es)
+seen-changed [] i change old new there made = refl
+seen-changed (e ∷ es) zero change old new there made =
+    let first : e.1 ≡ old = cc in
+    ap (λ known. (e.0, known) ∷ seen es) (made ∙ ap (λ q. change (known_of q)) (sym first))
+seen-changed (e ∷ es) (suc i) change old new there made = ap (λ rest. (e.0, known_of e.1) ∷ rest) (seen-changed es i change old new there made)
+
+changed-is-set : (es : List (Key × Queued)) (i : ℕ) (change : Known → Known) (old : Queued) → slice_get (values_of es) i ≡ Some old → changed_at i change (seen es) ≡ set_value_at (seen es) i (change (known_of old))
+changed-is-set [] i change old there = refl
+changed-is-set (e ∷ es) zero change old there =
+    let first : e.1 ≡ old = cc in
+    ap (λ q. (e.0, change (known_of q)) ∷ seen es) first
+changed-is-set (e ∷ es) (suc i) change old there = ap (λ rest. (e.0, known_of e.1) ∷ rest) (changed-is-set es i change old there)
+
+pub queue_at-seen : (es : List (Key × Queued)) (i : ℕ) (queue : Queued) → slice_get (values_of es) i ≡ Some queue → queue_at i (seen es) ≡ queue.items
+queue_at-seen [] i queue there = absurd (cc)
+queue_at-seen (e ∷ es) zero queue there =
+    let first : e.1 ≡ queue = cc in
+    ap (λ q. q.items) first
+queue_at-seen (e ∷ es) (suc i) queue there = queue_at-seen es i queue there
+
+-- ---- the place of a key
+
+some_value : (es : List (Key × Queued)) (i : ℕ) → i < length es → (queue : Queued) × (slice_get (values_of es) i ≡ Some queue)
+some_value [] i within = absurd (omega (arith, within))
+some_value (e ∷ es) zero within = (e.1, refl)
+some_value (e ∷ es) (suc i) within = some_value es i (omega arith)
+
+module _ (es : List (Key × Queued)) (key : Key) (place : ℕ) (found : position (key_eq key) (keys_of es) ≡ Some place) where
+  pub place_within : place < length es
+  place_within = (Found-position (key_eq key) es place found).within
+
+  lookup_at : lookup (key_eq key) es ≡ slice_get (values_of es) place
+  lookup_at = (Found-position (key_eq key) es place found).value
+
+  queue_there : (queue : Queued) × (slice_get (values_of es) place ≡ Some queue)
+  queue_there = some_value es place place_within
+
+  pub held_at : (queue : Queued) → slice_get (values_of es) place ≡ Some queue → held_by (seen es) key ≡ known_of queue
+  held_at queue there = held_by-known es key queue (lookup_at ∙ there)
+
+  pub is_known : is_some (lookup (key_eq key) (seen es)) ≡ true
+  is_known = ap is_some (lookup-seen (key_eq key) es ∙ ap (option_map known_of) (lookup_at ∙ queue_there.1))
+
+  -- a change at its place is one of what it has
+  pub changed-held : (change : Known → Known) → changed_at place change (seen es) ≡ with_held (seen es) key (change (held_by (seen es) key))
+  changed-held change =
+      changed-is-set es place change queue_there.0 queue_there.1
+      ∙ sym (insert_entry-first key_eq key (change (known_of queue_there.0)) (seen es) place (Found-position (key_eq key) (seen es) place (ap (position (key_eq key)) (keys_of-seen es) ∙ found)).first)
+      ∙ ap (λ held. with_held (seen es) key (change held)) (sym (held_at queue_there.0 queue_there.1))
+
+  pub queue_at-held : queue_at place (seen es) ≡ queue_of (seen es) key
+  queue_at-held = queue_at-seen es place queue_there.0 queue_there.1 ∙ sym (ap (λ held. held.queue) (held_at queue_there.0 queue_there.1))
+
+  -- with so many values
+  pub values_at : (count : ℕ) → count ≤ length (queue_of (seen es) key) → HasValuesAt es place count
+  values_at count enough = record {
+    queue = queue_there.0;
+    there = queue_there.1;
+    some = let same : length (queue_of (seen es) key) ≡ length queue_there.0.items = ap (λ held. length held.queue) (held_at queue_there.0 queue_there.1) in omega (arith, enough, same);
+  }

@@ -4,7 +4,8 @@ use Rattle.std.specs.Map.{lookup}
 use Rattle.std.specs.Option.{unwrap_or}
 use Rattle.indexmap.specs.IndexMap.{insert_entry}
 use Rattle.linda_core.specs.declared.key.Key.{Key}
-use Rattle.linda_core.specs.SequentialLinda.{key_eq, Known, Content, held_by, with_held, nothing}
+use Rattle.linda_core.specs.declared.content.Known.{Known}
+use Rattle.linda_core.specs.SequentialLinda.{key_eq, Keys, held_by, with_held, nothing}
 
 pub key_eq-Decides : (a b : Key) → Decides (key_eq a b) (a ≡ b)
 key_eq-Decides a b = search rules
@@ -25,7 +26,7 @@ apart q k e true false qe qk differ x y r = refl
 apart q k e false true qe qk differ x y r = refl
 apart q k e false false qe qk differ x y r = refl
 
-found_step : (q k e : Key) (b : Bool) (old new : Known) (rest : Content) → key_eq k e ≡ b
+found_step : (q k e : Key) (b : Bool) (old new : Known) (rest : Keys) → key_eq k e ≡ b
     → lookup (key_eq q) (insert_entry key_eq rest k new) ≡ cond (key_eq q k) (Some new) (lookup (key_eq q) rest)
     → lookup (key_eq q) (if b then (e, new) ∷ rest else (e, old) ∷ insert_entry key_eq rest k new) ≡ cond (key_eq q k) (Some new) (cond (key_eq q e) (Some old) (lookup (key_eq q) rest))
 found_step q k e true old new rest ke h =
@@ -35,7 +36,7 @@ found_step q k e false old new rest ke h =
     ap (λ r. cond (key_eq q e) (Some old) r) h
     ∙ apart q k e (key_eq q e) (key_eq q k) refl refl (λ same. true≢false (sym (subst (λ x. key_eq k x ≡ true) same (key_eq-refl k)) ∙ ke)) (Some new) (Some old) (lookup (key_eq q) rest)
 
-pub lookup-with_held : (linda : Content) (k q : Key) (new : Known) → lookup (key_eq q) (with_held linda k new) ≡ cond (key_eq q k) (Some new) (lookup (key_eq q) linda)
+pub lookup-with_held : (linda : Keys) (k q : Key) (new : Known) → lookup (key_eq q) (with_held linda k new) ≡ cond (key_eq q k) (Some new) (lookup (key_eq q) linda)
 lookup-with_held [] k q new = refl
 lookup-with_held (e ∷ rest) k q new = found_step q k e.0 (key_eq k e.0) e.1 new rest refl (lookup-with_held rest k q new)
 
@@ -44,5 +45,5 @@ held_step true new r = refl
 held_step false new r = refl
 
 -- one key has what was given to it, and each other key has what it had
-pub held_by-with_held : (linda : Content) (k q : Key) (new : Known) → held_by (with_held linda k new) q ≡ (if key_eq q k then new else held_by linda q)
+pub held_by-with_held : (linda : Keys) (k q : Key) (new : Known) → held_by (with_held linda k new) q ≡ (if key_eq q k then new else held_by linda q)
 held_by-with_held linda k q new = ap (λ r. unwrap_or r nothing) (lookup-with_held linda k q new) ∙ held_step (key_eq q k) new (lookup (key_eq q) linda)

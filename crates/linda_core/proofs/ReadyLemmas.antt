@@ -1,6 +1,8 @@
 -- Which operations fit.
-use Rattle.std.proofs.Common.{◌≡◌, ◌+◌, ◌-◌, ◌<◌, ◌≤◌, ℕ, Bool, true, false, cond, nat_le, nat_lt, nat_eq, List, length, drop, get_or, find, None, Some, ap, sym, ◌∙◌, arith}
+use Rattle.std.proofs.Common.{◌≡◌, ◌+◌, ◌-◌, ◌<◌, ◌≤◌, ℕ, Bool, true, false, cond, nat_le, nat_lt, nat_eq, List, length, drop, get_or, find, Option, None, Some, [], ◌∷◌, ◌||◌, is_some, refl, subst, ap, sym, ◌∙◌, arith}
 use Rattle.std.specs.Map.{lookup}
+use Rattle.std.specs.List.{list_any}
+use Rattle.std.specs.Option.{option_map}
 use Rattle.std.proofs.lemmas.Bool.Decides.{nat_tests}
 use Rattle.std.proofs.lemmas.List.{at_drop_more}
 use Rattle.linda_core.specs.declared.key.Key.{Key}
@@ -44,3 +46,23 @@ some_more n h = grind (arith, nat_tests)
 
 pub none_more : (n : ℕ) → n ≤ 0 → nat_lt 0 n ≡ false
 none_more n h = grind (arith, nat_tests)
+
+is_some_step : {X : Type 0} (b : Bool) (x : X) (r : Option X) (c : Bool) → is_some r ≡ c → is_some (cond b (Some x) r) ≡ b || c
+is_some_step true x r c h = refl
+is_some_step false x r c h = h
+
+pub is_some-find : {X : Type 0} (p : X → Bool) (xs : List X) → is_some (find p xs) ≡ list_any p xs
+is_some-find p [] = refl
+is_some-find p (x ∷ xs) = is_some_step (p x) x (find p xs) (list_any p xs) (is_some-find p xs)
+
+pub is_some-option_map : {X Y : Type 0} (f : X → Y) (r : Option X) → is_some (option_map f r) ≡ is_some r
+is_some-option_map f None = refl
+is_some-option_map f (Some x) = refl
+
+passes_step : {X : Type 0} (p : X → Bool) (b : Bool) (x y : X) (r : Option X) → p x ≡ b → (r ≡ Some y → p y ≡ true) → cond b (Some x) r ≡ Some y → p y ≡ true
+passes_step p true x y r px rest h = let same : x ≡ y = cc in subst (λ z. p z ≡ true) same px
+passes_step p false x y r px rest h = rest h
+
+pub find-passes : {X : Type 0} (p : X → Bool) (xs : List X) (y : X) → find p xs ≡ Some y → p y ≡ true
+find-passes p [] y h = absurd (cc)
+find-passes p (x ∷ xs) y h = passes_step p (p x) x y (find p xs) refl (find-passes p xs y) h

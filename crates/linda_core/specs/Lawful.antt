@@ -10,4 +10,4 @@ fault_of (Send key []) = Err NoData
 fault_of (Receive []) = Err BadKey
 fault_of (Batch key min max) = if (min == 0) || nat_lt max min then Err BadCount else Ok tt
 fault_of (Get key count) = if count == 0 then Err BadCount else Ok tt
-fault_of _ = Ok tt
+fault_of op = Ok tt

@@ -1,6 +1,10 @@
 pub mod Lawful
 pub mod SequentialLinda
+pub mod BankMeaning
+pub mod BankHolding
+pub mod BankRooms
 pub mod History
 pub mod Holding
-pub mod Serving
+pub mod Rooms
 pub mod Queue
+pub mod Items

@@ -7,8 +7,17 @@ use crate::key::Key;
 use lanes_arena::{Memory, Row};
 use std::alloc::Global;
 
+/// A side of a linda that a gate bars: reading is to receive, writing is to send.
+#[derive(Clone, Copy, Debug, PartialEq, Eq)]
+pub enum Side {
+    Neither,
+    Read,
+    Write,
+    Both,
+}
+
 /// An operation on a linda, after the methods of that name in Lua Lanes.
-#[derive(Debug, Drop)]
+#[derive(Drop)]
 pub enum LindaOp {
     /// Puts the values last in the key's queue, all or none.
     Send { key: Key, values: Row<Item> },
@@ -24,10 +33,12 @@ pub enum LindaOp {
     Get { key: Key, count: u64 },
     /// Shows the lengths of these keys' queues, of all keys where none is listed.
     Count { keys: Row<Key> },
+    /// Bars this side from now on, and no other.
+    Gate { side: Side },
 }
 
 /// What a linda replies to an operation.
-#[derive(Debug, Drop)]
+#[derive(Drop)]
 pub enum LindaReply {
     /// To a Send that was served.
     Sent,
@@ -43,22 +54,16 @@ pub enum LindaReply {
     Room(bool),
     /// To a Count.
     Counts(Row<(Key, u64)>),
-    /// To a Set.
+    /// To a Set and to a Gate.
     Done,
     /// To an operation that was withdrawn.
     Withdrawn,
-}
-
-/// How a call ended: served, given up because it was not ready, or withdrawn by its caller.
-#[derive(Clone, Copy, Debug, PartialEq, Eq)]
-pub enum Ending {
-    Served,
-    GaveUp,
-    Withdrawn,
+    /// To a Send, a Receive or a Batch that the gate bars.
+    Barred,
 }
 
 /// An operation, with the number of the linda that it is for.
-#[derive(Debug, Drop)]
+#[derive(Drop)]
 pub struct BankCall {
     pub linda: u64,
     pub op: LindaOp,
@@ -97,6 +102,7 @@ impl LindaOp {
             LindaOp::Count { keys } => Ok(LindaOp::Count {
                 keys: Row::of(copy_keys(alloc, keys.as_slice())?),
             }),
+            LindaOp::Gate { side } => Ok(LindaOp::Gate { side: *side }),
         }
     }
 }
@@ -125,6 +131,7 @@ impl LindaReply {
             )?))),
             LindaReply::Done => Ok(LindaReply::Done),
             LindaReply::Withdrawn => Ok(LindaReply::Withdrawn),
+            LindaReply::Barred => Ok(LindaReply::Barred),
         }
     }
 }

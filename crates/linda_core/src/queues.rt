@@ -1,16 +1,18 @@
 //! What a linda does with its map of queues.
-ghost use Rattle.std.specs.Prelude.{◌≡◌, ◌<◌, ◌+◌, ◌∷◌, [], length, take, nat_le, slice_get, find, position, Some, IfSome, OnOk};
+ghost use Rattle.std.specs.Prelude.{◌≡◌, ◌<◌, ◌≤◌, ◌+◌, [], length, take, min, nat_le, find, position, Some, IfSome, IfOk, OnOk};
 ghost use Rattle.std.specs.Option.{option_map};
-ghost use Rattle.indexmap.specs.IndexMap.{index_map_len, keys, values, insert_entry, spare};
-ghost use Rattle.linda_core.specs.SequentialLinda.{key_eq, has_value, held_by, is_within, queue_of};
-ghost use Rattle.linda_core.specs.Holding.{seen, HasRoomAt};
-ghost use Rattle.linda_core.specs.Serving.{appended, begun, shortened, Changes, HasValueAt};
+ghost use Rattle.std.specs.Vec.{vec_capacity};
+ghost use Rattle.indexmap.specs.IndexMap.{index_map_len, keys, spare};
+ghost use Rattle.linda_core.specs.SequentialLinda.{key_eq, has_new_room, has_value, held_by, is_within, queue_of, with_held};
+ghost use Rattle.linda_core.specs.Holding.{known_of, seen};
+ghost use Rattle.linda_core.specs.Rooms.{appended, bounded, changed_at, queue_at, replaced, shortened, HasRoomAt, HasValuesAt};
 
 use crate::item::Item;
 use crate::key::Key;
-use crate::queue::Queue;
+use crate::queue::{Queue, Ring};
 use indexmap::IndexMap;
 use lanes_arena::Memory;
+use std::alloc::Global;
 use std::collections::VecDeque;
 
 /// Whether so many more values stay within the key's limit.
@@ -34,6 +36,53 @@ pub fn has_at_least(queues: &IndexMap<Key, Queue>, key: &Key, count: u64) -> boo
     match queues.get(key) {
         Some(queue) => count <= queue.len() as u64,
         None => count == 0,
+    }
+}
+
+/// Whether a key that was at its limit has room under this one.
+pub fn makes_room(queues: &IndexMap<Key, Queue>, key: &Key, limit: Option<u64>) -> bool
+    ensures { result ≡ has_new_room (held_by (seen queues.now.entries) key.now).limit limit
+        (length (queue_of (seen queues.now.entries) key.now)) }
+{
+    match queues.get(key) {
+        Some(queue) => has_new_room(queue.limit(), limit, queue.len() as u64),
+        None => false,
+    }
+}
+
+fn has_new_room(old: Option<u64>, new: Option<u64>, count: u64) -> bool
+    ensures { result ≡ has_new_room old new count }
+{
+    match (old, new) {
+        (None, _) => false,
+        (Some(old), None) => old <= count,
+        (Some(old), Some(new)) => old <= count && count < new,
+    }
+}
+
+/// The lesser of this number and the length of the key's queue.
+pub fn length_at_most(queues: &IndexMap<Key, Queue>, key: &Key, count: u64) -> usize
+    ensures { result ≡ min count (length (queue_of (seen queues.now.entries) key.now)) }
+{
+    match queues.get(key) {
+        Some(queue) => queue.at_most(count),
+        None => 0,
+    }
+}
+
+/// Copies of the first values of the key, at most so many.
+pub fn first_values(
+    queues: &IndexMap<Key, Queue>,
+    alloc: Global,
+    key: &Key,
+    count: u64,
+) -> Result<Vec<Item>, Memory>
+    ensures { IfOk result (λ copies. copies.items
+        ≡ take count (queue_of (seen queues.now.entries) key.now)) }
+{
+    match queues.get(key) {
+        Some(queue) => queue.first(alloc, count),
+        None => Ok(Vec::new(alloc)),
     }
 }
 
@@ -74,28 +123,53 @@ pub fn reserve_at(
 /// Puts the values last in the queue at a place.
 pub fn append_at(queues: &mut IndexMap<Key, Queue>, place: usize, values: VecDeque<Item>)
     requires { HasRoomAt queues.old.entries place (length values.items) }
-    ensures { Changes queues.old.entries place (appended values.items) queues.new.entries }
+    ensures { seen queues.new.entries
+        ≡ changed_at place (appended values.items) (seen queues.old.entries) }
 {
-    if let Some(queue) = queues.get_index_mut(place) {
-        queue.append(values);
-    }
+    queues.get_index_mut(place).unwrap().append(values);
 }
 
-/// Makes a key known, with these values.
-pub fn begin(queues: &mut IndexMap<Key, Queue>, key: Key, values: VecDeque<Item>)
+/// Makes a key known, with this queue.
+pub fn begin(queues: &mut IndexMap<Key, Queue>, key: Key, queue: Queue)
     requires { 0 < spare queues.old }
-    ensures { seen queues.new.entries ≡ insert_entry key_eq (seen queues.old.entries) key
-        (begun values.items) }
+    ensures { seen queues.new.entries
+        ≡ with_held (seen queues.old.entries) key (known_of queue) }
 {
-    let _ = queues.insert(key, Queue::of(values));
+    let _ = queues.insert(key, queue);
 }
 
-/// Takes the first value of the queue at a place.
-pub fn take_at(queues: &mut IndexMap<Key, Queue>, place: usize) -> Item
-    requires { HasValueAt queues.old.entries place }
-    ensures first { IfSome (slice_get (values queues.old) place)
-        (λ queue. take 1 queue.items ≡ result ∷ []) }
-    ensures rest { Changes queues.old.entries place shortened queues.new.entries }
+/// Moves the first values of the queue at a place to a list.
+pub fn take_at(
+    queues: &mut IndexMap<Key, Queue>,
+    place: usize,
+    count: usize,
+    values: &mut Vec<Item>,
+)
+    requires there { HasValuesAt queues.old.entries place count }
+    requires room { count ≤ vec_capacity values.old }
+    requires empty { values.old.items ≡ [] }
+    ensures taken { values.new.items
+        ≡ take count (queue_at place (seen queues.old.entries)) }
+    ensures rest { seen queues.new.entries
+        ≡ changed_at place (shortened count) (seen queues.old.entries) }
 {
-    queues.get_index_mut(place).unwrap().take_first()
+    queues.get_index_mut(place).unwrap().take(count, values);
+}
+
+/// Sets the limit of the key at a place.
+pub fn limit_at(queues: &mut IndexMap<Key, Queue>, place: usize, limit: Option<u64>)
+    requires { place < length queues.old.entries }
+    ensures { seen queues.new.entries
+        ≡ changed_at place (bounded limit) (seen queues.old.entries) }
+{
+    queues.get_index_mut(place).unwrap().set_limit(limit);
+}
+
+/// Makes these values the queue at a place.
+pub fn replace_at(queues: &mut IndexMap<Key, Queue>, place: usize, ring: Ring)
+    requires { place < length queues.old.entries }
+    ensures { seen queues.new.entries
+        ≡ changed_at place (replaced ring.items) (seen queues.old.entries) }
+{
+    queues.get_index_mut(place).unwrap().replace(ring);
 }

@@ -79,6 +79,7 @@ reply_wrong (reply.Room a) h0 h1 = refl
 reply_wrong (reply.Counts a) h0 h1 = refl
 reply_wrong reply.Done h0 h1 = refl
 reply_wrong reply.Withdrawn h0 h1 = refl
+reply_wrong reply.Barred h0 h1 = refl
 
 -- ---- refusals
 

@@ -1,6 +1,6 @@
 //! What the answers of the host give.
-ghost use Rattle.std.specs.Prelude.{◌≤◌, ◌∷◌, length};
-ghost use Rattle.lanes_lib.specs.Face.{Gives, taken_print, taken_new, taken_linda, taken_reply, key_piece, item_piece, item_pieces};
+ghost use Rattle.std.specs.Prelude.{◌≤◌, ◌∷◌, length, Ok, Some};
+ghost use Rattle.lanes_lib.specs.Face.{Gives, taken_print, taken_new, taken_linda, taken_reply, key_piece, item_piece, item_pieces, root_piece};
 ghost use Rattle.lua_meaning.specs.Level.{Level};
 ghost use Rattle.lua_meaning.specs.Library as spec;
 ghost use Rattle.lua_machine.specs.Does.{ManyOf, OneOf, world};
@@ -12,6 +12,7 @@ use linda_core::{Item, Key, LindaReply};
 use lua_machine::{Done, Got, Host, Loaded, Machine};
 use lua_meaning::{Fault, Site};
 use object_store::Value;
+use parcel::Leaf;
 
 /// What an answer to a print gives.
 pub fn took_print<H: Host>(
@@ -140,17 +141,43 @@ fn place_key<H: Host>(m: &mut Machine<H>, p: &Loaded, site: Site, key: &Key) -> 
     }
 }
 
+/// Gives nil, which stands for what no message holds yet.
+fn nothing<H: Host>(m: &mut Machine<H>) -> Done
+    ensures { OneOf H.asked (λ k. k (Ok Value.Nil) (world m.old)) m.old result m.new }
+{
+    m.value = Value::Nil;
+    Done::Well
+}
+
+/// The root of an item that was received, as a value.
+fn place_root<H: Host>(m: &mut Machine<H>, p: &Loaded, site: Site, root: &Leaf) -> Done
+    ensures { (l : Level) → OneOf H.asked (spec.place_piece p.now l site (root_piece (Some
+        root.now)) (world m.old)) m.old result m.new }
+{
+    match root {
+        Leaf::Int(number) => {
+            m.value = Value::Int(*number);
+            Done::Well
+        }
+        Leaf::Text(text) => m.intern(text.as_slice()),
+        Leaf::Nil => nothing(m),
+        Leaf::Bool(_) => nothing(m),
+        Leaf::Node(_) => nothing(m),
+        Leaf::Lib(_) => nothing(m),
+        Leaf::Linda(_) => nothing(m),
+        Leaf::Light(_) => nothing(m),
+        Leaf::Globals => nothing(m),
+    }
+}
+
 /// An item that was received, as a value.
 fn place_item<H: Host>(m: &mut Machine<H>, p: &Loaded, site: Site, item: &Item) -> Done
     ensures { (l : Level) → OneOf H.asked (spec.place_piece p.now l site (item_piece item.now)
         (world m.old)) m.old result m.new }
 {
-    match item {
-        Item::Int(number) => {
-            m.value = Value::Int(*number);
-            Done::Well
-        }
-        Item::Text(text) => m.intern(text.as_slice()),
+    match item.only_root() {
+        Some(root) => place_root(m, p, site, root),
+        None => nothing(m),
     }
 }
 

@@ -56,6 +56,7 @@ where
 /// A call of the library function of this number, with the arguments from a place of the stack on.
 /// A number of no function is `NotCallable`. The faults have the position of the call expression
 /// at the site.
+#[inline(never)]
 pub fn library_call<H, E, M, C, S>(
     b: &Below<H, E, M, C, S>,
     m: &mut Machine<H>,

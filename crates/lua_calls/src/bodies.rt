@@ -175,6 +175,7 @@ where
 }
 
 /// A call of a body with `...`, whose window lies above its arguments.
+#[inline(never)]
 fn run_vararg<H, E, M, C, S>(
     b: &Below<H, E, M, C, S>,
     m: &mut Machine<H>,

@@ -8,6 +8,7 @@ ghost use Rattle.lua_machine.specs.Moved.{LocalsOf};
 use lua_machine::{Done, Host, Loaded, Machine, Window};
 
 /// The value of a slot comes into a new cell, which is that of the slot.
+#[inline(never)]
 fn param_cell<H: Host>(m: &mut Machine<H>, p: &Loaded, line: u32, f: &Window, i: usize) -> Done
     requires { Fits f.now m.old.stack }
     ensures { LocalsOf H.asked (param_cell p.now line i (or_broken (slice_get (frame f.now

@@ -21,6 +21,7 @@ use lua_statements::value_at;
 use object_store::Value;
 
 /// The value becomes that of a captured local, in a new cell, and the values past the window stay.
+#[inline(never)]
 fn put_in_cell<H: Host>(m: &mut Machine<H>, p: &Loaded, f: &Window, i: u16) -> Done
     requires { Fits f.now m.old.stack }
     ensures locals { LocalsOf H.asked (in_cell (fault_at p.now 0 lua.Full) i m.old.value (frame
@@ -183,6 +184,7 @@ fn line_of(p: &Loaded, n: u32) -> u32
 }
 
 /// A local with a function that sees it.
+#[inline(never)]
 pub fn local_function<H, E, M, C, S>(
     b: &Below<H, E, M, C, S>,
     m: &mut Machine<H>,

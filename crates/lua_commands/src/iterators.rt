@@ -10,6 +10,7 @@ use lua_program::{RExpr, RStat, Ref};
 use lua_statements::{in_turns, value_at};
 
 /// A generic `for`: the function, the state and the first value before, then the turns.
+#[inline(never)]
 pub fn generic_for<H, E, M, C, S>(
     b: &Below<H, E, M, C, S>,
     m: &mut Machine<H>,

@@ -1,5 +1,6 @@
 pub mod Piled
 pub mod Does
+pub mod Leaves
 pub mod LoadedCode
 pub mod Failing
 pub mod Moved

@@ -6,6 +6,7 @@
 mod below;
 mod faults;
 mod host;
+mod leaves;
 mod loaded;
 mod machine;
 mod names;

@@ -85,6 +85,7 @@ impl<H: Host> Machine<H> {
     }
 
     /// A new cell with the value. Where there may be no more cells it is a fault of this line.
+    #[inline(never)]
     pub fn enclose(&mut self, p: &Loaded, line: u32) -> Option<CellId>
         ensures { CellOf H.asked (enclosed (fault_at p.now line lua.Full) self.old.value (world
             self.old)) self.old result self.new }
@@ -123,6 +124,7 @@ impl<H: Host> Machine<H> {
     }
 
     /// The value becomes that of a captured local, in a new cell.
+    #[inline(never)]
     pub fn put_in_cell(&mut self, p: &Loaded, line: u32, f: &Window, i: u16) -> Done
         requires { Fits f.now self.old.stack }
         ensures { LocalsOf H.asked (in_cell (fault_at p.now line lua.Full) i self.old.value (frame

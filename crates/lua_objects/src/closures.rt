@@ -83,6 +83,7 @@ fn new_function<H: Host>(
 /// The function of the body of this number, which captures cells of the window's function. Where
 /// there may be no more functions it is a fault of this line.
 // The level below has no part in it but that the meaning is stated over it.
+#[inline(never)]
 pub fn function<H, E, M, C, S>(
     b: &Below<H, E, M, C, S>,
     m: &mut Machine<H>,

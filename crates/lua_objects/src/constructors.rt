@@ -74,6 +74,7 @@ where
 }
 
 /// A new table with these fields. The last one, where it is an item, gives all its values.
+#[inline(never)]
 pub fn constructed<H, E, M, C, S>(
     b: &Below<H, E, M, C, S>,
     m: &mut Machine<H>,

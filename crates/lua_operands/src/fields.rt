@@ -1,5 +1,8 @@
 //! `object[key]` and `object[key] = value`.
-ghost use Rattle.std.specs.Prelude.{◌≡◌, ◌≢◌, ◌≤◌, ◌-◌, [], ◌∷◌, length, Ok};
+ghost use Rattle.std.specs.Prelude.{◌≡◌, ◌≢◌, ◌≤◌, ◌-◌, [], ◌∷◌, length, Ok, IsTrue, IsFalse, not};
+ghost use Rattle.object_store.specs.Value.{is_nil};
+ghost use Rattle.lua_ops.specs.Metamethods.{raw_get};
+ghost use Rattle.lua_ops.specs.Setting as setting;
 ghost use Rattle.lua_meaning.specs.Levels.{level};
 ghost use Rattle.lua_meaning.specs.Operate as spec;
 ghost use Rattle.lua_machine.specs.Does.{Fits, Stands, OneOf, UnitOf, world};
@@ -8,13 +11,13 @@ use crate::handlers::handled;
 use lanes_lib::member;
 use lua_machine::{Below, Done, FlowTag, Got, Host, Loaded, Machine, Window};
 use lua_meaning::Site;
-use lua_ops::{Step, Target};
+use lua_ops::{Step, Target, raw_index};
 use lua_program::{RExpr, RStat};
 use object_store::{LuaFault, TableId, Value};
 
-/// `object[key]`, with the key in `value`.
-#[inline]
-pub fn index<H, E, M, C, S>(
+/// `object[key]` of any kind, with the key in `value`.
+#[inline(never)]
+fn any_index<H, E, M, C, S>(
     b: &Below<H, E, M, C, S>,
     m: &mut Machine<H>,
     p: &Loaded,
@@ -42,6 +45,38 @@ where
             Done::Failed
         }
     }
+}
+
+/// `object[key]`, with the key in `value`. Most are values that a table has.
+#[inline]
+pub fn index<H, E, M, C, S>(
+    b: &Below<H, E, M, C, S>,
+    m: &mut Machine<H>,
+    p: &Loaded,
+    line: u32,
+    from: Site,
+    object: Value,
+) -> Done
+where
+    H: Host,
+    E: Fn(&mut Machine<H>, &Loaded, &Window, &RExpr, u32) -> Done + Copy,
+    M: Fn(&mut Machine<H>, &Loaded, &Window, &RExpr, u32) -> Got + Copy,
+    C: Fn(&mut Machine<H>, &Loaded, Site, usize, u32) -> Got + Copy,
+    S: Fn(&mut Machine<H>, &Loaded, &Window, &RStat, u32) -> FlowTag + Copy,
+    requires stands { Stands H.asked p.now b.now.level (E.pre b.now.expr) (E.post b.now.expr)
+        (M.pre b.now.multi) (M.post b.now.multi) (C.pre b.now.call) (C.post b.now.call)
+        (S.pre b.now.stmt) (S.post b.now.stmt) }
+    ensures { OneOf H.asked (spec.index p.now (level p.now b.now.level) line from object m.old.value
+        (world m.old)) m.old result m.new }
+{
+    if let Value::Table(id) = object {
+        let value = raw_index(&m.state, id, m.value);
+        if !value.is_nil() {
+            m.value = value;
+            return Done::Well;
+        }
+    }
+    any_index(b, m, p, line, from, object)
 }
 
 /// The value of an index, or the first value of its handler, or a field of a handle.
@@ -84,9 +119,9 @@ where
     }
 }
 
-/// `object[key] = value`, with the value in `value`.
-#[inline]
-pub fn set<H, E, M, C, S>(
+/// `object[key] = value` of any kind, with the value in `value`.
+#[inline(never)]
+fn any_set<H, E, M, C, S>(
     b: &Below<H, E, M, C, S>,
     m: &mut Machine<H>,
     p: &Loaded,
@@ -114,6 +149,63 @@ where
             Done::Failed
         }
     }
+}
+
+/// `object[key] = value`, with the value in `value`. Most set a key that a table has, or a table
+/// without a metatable.
+#[inline]
+pub fn set<H, E, M, C, S>(
+    b: &Below<H, E, M, C, S>,
+    m: &mut Machine<H>,
+    p: &Loaded,
+    line: u32,
+    from: Site,
+    object: Value,
+    key: Value,
+) -> Done
+where
+    H: Host,
+    E: Fn(&mut Machine<H>, &Loaded, &Window, &RExpr, u32) -> Done + Copy,
+    M: Fn(&mut Machine<H>, &Loaded, &Window, &RExpr, u32) -> Got + Copy,
+    C: Fn(&mut Machine<H>, &Loaded, Site, usize, u32) -> Got + Copy,
+    S: Fn(&mut Machine<H>, &Loaded, &Window, &RStat, u32) -> FlowTag + Copy,
+    requires stands { Stands H.asked p.now b.now.level (E.pre b.now.expr) (E.post b.now.expr)
+        (M.pre b.now.multi) (M.post b.now.multi) (C.pre b.now.call) (C.post b.now.call)
+        (S.pre b.now.stmt) (S.post b.now.stmt) }
+    ensures { UnitOf H.asked (spec.set p.now (level p.now b.now.level) line from object key
+        m.old.value (world m.old)) m.old result m.new }
+{
+    if let Value::Table(id) = object {
+        if is_plain(m, id) {
+            return set_raw(m, p, line, id, key);
+        }
+        if !key.is_nil() && put_here(m, id, key) {
+            return Done::Well;
+        }
+    }
+    any_set(b, m, p, line, from, object, key)
+}
+
+/// Whether the table has no metatable.
+#[inline(always)]
+fn is_plain<H: Host>(m: &Machine<H>, id: TableId) -> bool
+    ensures { result ≡ setting.is_plain m.now.state.heap id.number }
+{
+    match m.state.table_of(id) {
+        Some(table) => table.meta().is_none(),
+        None => true,
+    }
+}
+
+/// A key that has a live value in a table is set to the value; else nothing is done.
+fn put_here<H: Host>(m: &mut Machine<H>, id: TableId, key: Value) -> bool
+    ensures live { result ≡ not (is_nil (raw_get m.old.state.heap id.number key)) }
+    ensures put { IsTrue result → UnitOf H.asked (spec.put id key m.old.value (world m.old)) m.old
+        Done.Well m.new }
+    ensures refused { IsFalse result → m.new ≡ m.old }
+{
+    let value = m.value;
+    lua_ops::raw_set_here(&mut m.state, id, key, value)
 }
 
 /// A table is set, or a handler is called.

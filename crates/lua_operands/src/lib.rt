@@ -13,12 +13,14 @@ macro_rules! well {
 
 mod fields;
 mod handlers;
+mod integers;
 mod joining;
 mod operators;
 mod signs;
 
 pub use fields::{index, put, set, set_raw};
 pub use handlers::{finish, finish_step, handled};
+pub use integers::plain;
 pub use joining::concat;
 pub use operators::{arith, compare};
 pub use signs::{binary, unary};

@@ -7,6 +7,7 @@ ghost use Rattle.lua_meaning.specs.Names.{is_true};
 ghost use Rattle.object_store.specs.Value.{value_of_bool};
 
 use crate::handlers::finish;
+use crate::integers::plain;
 use crate::joining::concat;
 use crate::operators::{arith, compare};
 use lua_machine::{Below, Done, FlowTag, Got, Host, Loaded, Machine, Window};
@@ -16,9 +17,9 @@ use lua_program::{RExpr, RStat};
 use lua_tree::{Binary, Unary};
 use object_store::Value;
 
-/// An operator of a first operand and the one in `value`.
-#[inline]
-pub fn binary<H, E, M, C, S>(
+/// An operator of a first operand and the one in `value`, of any kind.
+#[inline(never)]
+fn general<H, E, M, C, S>(
     b: &Below<H, E, M, C, S>,
     m: &mut Machine<H>,
     p: &Loaded,
@@ -60,7 +61,41 @@ where
     }
 }
 
+/// An operator of a first operand and the one in `value`. Most have two integers.
+#[inline(always)]
+pub fn binary<H, E, M, C, S>(
+    b: &Below<H, E, M, C, S>,
+    m: &mut Machine<H>,
+    p: &Loaded,
+    line: u32,
+    from: Site,
+    op: Binary,
+    x: Value,
+) -> Done
+where
+    H: Host,
+    E: Fn(&mut Machine<H>, &Loaded, &Window, &RExpr, u32) -> Done + Copy,
+    M: Fn(&mut Machine<H>, &Loaded, &Window, &RExpr, u32) -> Got + Copy,
+    C: Fn(&mut Machine<H>, &Loaded, Site, usize, u32) -> Got + Copy,
+    S: Fn(&mut Machine<H>, &Loaded, &Window, &RStat, u32) -> FlowTag + Copy,
+    requires stands { Stands H.asked p.now b.now.level (E.pre b.now.expr) (E.post b.now.expr)
+        (M.pre b.now.multi) (M.post b.now.multi) (C.pre b.now.call) (C.post b.now.call)
+        (S.pre b.now.stmt) (S.post b.now.stmt) }
+    ensures { OneOf H.asked (spec.binary p.now (level p.now b.now.level) line from op x m.old.value
+        (world m.old)) m.old result m.new }
+{
+    if let Value::Int(first) = x
+        && let Value::Int(second) = m.value
+        && let Some(value) = plain(op, first, second)
+    {
+        m.value = value;
+        return Done::Well;
+    }
+    general(b, m, p, line, from, op, x)
+}
+
 /// An operator of the one operand in `value`.
+#[inline(never)]
 pub fn unary<H, E, M, C, S>(
     b: &Below<H, E, M, C, S>,
     m: &mut Machine<H>,

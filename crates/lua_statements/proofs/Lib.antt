@@ -7,3 +7,4 @@ pub mod ChoiceTurns
 pub mod LocalTurns
 pub mod CallTurns
 pub mod GenericTurns
+pub mod ConditionTurns

@@ -38,6 +38,7 @@ where
 }
 
 /// The first branch whose condition is true, or `else`.
+#[inline(never)]
 pub fn branches<H, E, M, C, S>(
     b: &Below<H, E, M, C, S>,
     m: &mut Machine<H>,

@@ -101,6 +101,7 @@ where
 }
 
 /// The turns. They end where the first value of a call is nil.
+#[inline(never)]
 pub fn in_turns<H, E, M, C, S>(
     b: &Below<H, E, M, C, S>,
     m: &mut Machine<H>,

@@ -11,7 +11,7 @@ mod numeric;
 
 pub use blocks::block;
 pub use choice::branches;
-pub use conditions::{any_test, test};
+pub use conditions::test;
 pub use generic::in_turns;
 pub use locals::{declare_all, value_at};
 pub use loops::{repeat_turns, while_turns};

@@ -38,6 +38,7 @@ where
 }
 
 /// The turns of a `while` loop.
+#[inline(never)]
 pub fn while_turns<H, E, M, C, S>(
     b: &Below<H, E, M, C, S>,
     m: &mut Machine<H>,
@@ -76,6 +77,7 @@ where
 }
 
 /// The turns of a `repeat` loop. The condition sees the locals of the body.
+#[inline(never)]
 pub fn repeat_turns<H, E, M, C, S>(
     b: &Below<H, E, M, C, S>,
     m: &mut Machine<H>,

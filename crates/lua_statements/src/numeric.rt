@@ -106,6 +106,7 @@ where
 }
 
 /// The turns.
+#[inline(never)]
 pub fn for_turns<H, E, M, C, S>(
     b: &Below<H, E, M, C, S>,
     m: &mut Machine<H>,
@@ -230,6 +231,7 @@ where
 }
 
 /// A numeric `for`.
+#[inline(never)]
 pub fn numeric_for<H, E, M, C, S>(
     b: &Below<H, E, M, C, S>,
     m: &mut Machine<H>,

@@ -3,7 +3,8 @@ ghost use Rattle.std.specs.Prelude.{◌<◌, length, IfOk};
 ghost use Rattle.object_store.specs.Closed.{Bounds, Belongs, IsClosed, IsWithin, IsTableWithin};
 ghost use Rattle.object_store.specs.Table.{contents_of};
 
-use object_store::{CellId, LuaFault, State, Table, TableId, Value};
+use lanes_arena::{Code, Row};
+use object_store::{Cell, CellId, FuncId, Function, LuaFault, State, Table, TableId, Value};
 use std::alloc::Global;
 
 /// Sets a key of a table, where the table belongs to the state.
@@ -93,4 +94,52 @@ fn single(alloc: Global, value: Value) -> Result<Table, LuaFault>
     table.reserve(1)?;
     table.set(Value::Int(1), value)?;
     Ok(table)
+}
+
+/// Adds a cell with this content.
+pub fn add_variable(state: &mut State, content: Value) -> Result<CellId, LuaFault>
+    requires closed { IsClosed state.old }
+    requires content { Belongs state.old content }
+    ensures closed { IsClosed state.new }
+    ensures belongs { IfOk result (λ id. id.number < length state.new.heap.cells) }
+{
+    state.reserve(0, 0, 1)?;
+    Ok(state.add_cell(Cell { content }))
+}
+
+/// Adds a function that has this cell.
+pub fn add_closure(alloc: Global, state: &mut State, cell: CellId) -> Result<FuncId, LuaFault>
+    requires closed { IsClosed state.old }
+    requires cell { cell.number < length state.old.heap.cells }
+    ensures closed { IsClosed state.new }
+    ensures belongs { IfOk result (λ id. Belongs state.new (Value.Func id)) }
+{
+    let mut cells = Row::new(alloc);
+    cells.push(cell)?;
+    state.reserve(0, 1, 0)?;
+    Ok(state.add_function(Function {
+        code: Code::Script(0),
+        cells,
+    }))
+}
+
+/// Adds a function that names itself: its only cell has the function. Nothing is added where there
+/// is no room for both.
+pub fn add_recursive(alloc: Global, state: &mut State) -> Result<FuncId, LuaFault>
+    requires closed { IsClosed state.old }
+    ensures closed { IsClosed state.new }
+    ensures belongs { IfOk result (λ id. Belongs state.new (Value.Func id)) }
+{
+    let function = state.function_ahead(0);
+    let mut cells = Row::new(alloc);
+    cells.push(state.cell_ahead(0))?;
+    state.reserve(0, 1, 1)?;
+    state.add_cell(Cell {
+        content: Value::Func(function),
+    });
+    state.add_function(Function {
+        code: Code::Script(0),
+        cells,
+    });
+    Ok(function)
 }

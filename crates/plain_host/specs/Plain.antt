@@ -1,13 +1,15 @@
 -- The host of one lane alone: an output, and a bank of lindas. What it answers to an ask, and what
 -- the output and the bank are then.
-use Rattle.std.specs.Prelude.{◌≡◌, ◌≤◌, ◌++◌, ◌∷◌, [], ℕ, List, length, map, Bool, true, false, ◌&&◌, slice_get, slice_set, Option, Some, None}
+use Rattle.std.specs.Prelude.{◌≡◌, ◌≤◌, ◌++◌, ◌∷◌, [], ℕ, List, length, map, Bool, true, false, ◌&&◌, slice_get, slice_set, is_ok, Option, Some, None}
 use Rattle.std.specs.Io.KnownBytes.{Appends}
 use Rattle.linda_core.specs.declared.call.BankCall.{BankCall}
 use Rattle.linda_core.specs.declared.call.LindaOp.{LindaOp}
 use Rattle.linda_core.specs.declared.call.LindaReply.{LindaReply}
-use Rattle.linda_core.specs.declared.call.Ending.TheVariants.{Served}
+use Rattle.linda_core.specs.declared.content.Content.{Content}
 use Rattle.linda_core.specs.Holding.{Holding, content}
-use Rattle.linda_core.specs.SequentialLinda.{Content, Steps, fits, is_carried_out}
+use Rattle.linda_core.specs.Lawful.{fault_of}
+use Rattle.linda_core.specs.SequentialLinda.{Steps, empty_linda, fits}
+use Rattle.desk_object.specs.declared.ending.Ending.TheVariants.{Served}
 use Rattle.lanes_lib.specs.declared.ask.Ask.{Ask}
 use Rattle.lanes_lib.specs.declared.ask.Ask.TheVariants as ask
 use Rattle.lanes_lib.specs.declared.ask.Answer.{Answer}
@@ -23,10 +25,11 @@ pub record Seen : Type 0 where
   pub failed : Bool
   pub lindas : List Content
 
--- a linda is ready for a call where there is one of this number, and the operation fits it
+-- a linda is ready for a call where there is one of this number, and the operation is lawful and
+-- fits it
 abbrev pub is_ready : Option Content → LindaOp → Bool
 is_ready None op = false
-is_ready (Some linda) op = is_carried_out op && fits linda op
+is_ready (Some linda) op = is_ok (fault_of op) && fits linda op
 
 -- a ready call was served, as the sequential linda has it
 pub record Serves (before after : List Content) (call : BankCall) (reply : LindaReply) :
@@ -48,7 +51,7 @@ Answers h (ask.Print text) answer.WriteFault h1 =
     AppendsPart h.taken h1.taken text × (h.faults ≤ h1.faults) × Rose h.faults h1.faults
     × (h1 ≡ record h { taken = h1.taken; faults = h1.faults; failed = true })
 Answers h ask.NewLinda (answer.Linda n) h1 =
-    (n ≡ length h.lindas) × (h1 ≡ record h { lindas = h.lindas ++ [] ∷ [] })
+    (n ≡ length h.lindas) × (h1 ≡ record h { lindas = h.lindas ++ empty_linda ∷ [] })
 Answers h (ask.Linda call seconds) (answer.Reply reply) h1 =
     Serves h.lindas h1.lindas call reply × (h1 ≡ record h { lindas = h1.lindas })
 Answers h (ask.Linda call seconds) answer.NotBuilt h1 =

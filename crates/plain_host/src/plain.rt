@@ -2,12 +2,11 @@
 ghost use Rattle.std.specs.Prelude.{◌≡◌, [], ℕ, false};
 ghost use Rattle.std.specs.declared.option.Option.{Option};
 ghost use Rattle.linda_core.specs.Holding.{content};
-ghost use Rattle.linda_core.specs.SequentialLinda.{is_carried_out};
 ghost use Rattle.plain_host.specs.Plain.{Answers, AnswersOne, seen_of};
 
 use crate::writing::write_text;
 use lanes_lib::{Answer, Ask};
-use linda_core::{BankCall, Ending, Linda, LindaOp};
+use linda_core::{BankCall, Ending, Linda, LindaOp, check_op};
 use lua_machine::Ready;
 use outside::Sink;
 use std::alloc::Global;
@@ -85,20 +84,13 @@ impl<O: Sink> Plain<O> {
 fn answer_of(alloc: Global, linda: &mut Linda, op: &LindaOp) -> Answer
     ensures { AnswersOne (content linda.old) op.now result (content linda.new) }
 {
-    if !is_carried_out(op) || !linda.ready(op) {
+    if check_op(op).is_err() || !linda.ready(op) {
         return Answer::NotBuilt;
     }
     match linda.reserve(alloc, op) {
         Ok(room) => Answer::Reply(linda.apply(op, Ending::Served, room)),
         Err(_) => Answer::Memory,
     }
-}
-
-/// Whether lindas carry the operation out.
-fn is_carried_out(op: &LindaOp) -> bool
-    ensures { result ≡ is_carried_out op.now }
-{
-    matches!(op, LindaOp::Send { .. } | LindaOp::Receive { .. })
 }
 
 impl<O: Sink> Ready for Plain<O> {

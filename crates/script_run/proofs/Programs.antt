@@ -1,5 +1,5 @@
 -- A run with the plain host, as the run of a program.
-use Rattle.std.proofs.Common.{◌≡◌, ◌⊎◌, inl, inr, ◌∙◌, ◌<◌, ◌≤◌, ℕ, arith, List, [], ◌∷◌, Bool, true, false, Result, Ok, Err, Option, ap, sym, subst, refl, true≢false}
+use Rattle.std.proofs.Common.{◌≡◌, ◌⊎◌, inl, inr, ◌∙◌, ◌<◌, ◌≤◌, ◌+◌, ℕ, arith, List, [], ◌∷◌, Bool, true, false, Result, Ok, Err, Option, ap, sym, subst, refl, true≢false}
 use Rattle.std.specs.List.{FoldsTo}
 use Rattle.lua_program.specs.declared.program.Program.{Program}
 use Rattle.object_store.specs.Heap.{Shown}
@@ -8,7 +8,8 @@ use Rattle.lanes_lib.specs.declared.ask.Ask.{Ask}
 use Rattle.lanes_lib.specs.declared.ask.Ask.TheVariants as ask
 use Rattle.lanes_lib.specs.declared.ask.Answer.{Answer}
 use Rattle.lanes_lib.specs.declared.ask.Answer.TheVariants as answer
-use Rattle.base_lib.specs.Open.{opened_base, opened_math}
+use Rattle.base_lib.specs.declared.open.TheConstants.{BASE, MATH}
+use Rattle.base_lib.specs.Open.{opened_libs}
 use Rattle.lua_meaning.specs.declared.fault.Fault.{Fault}
 use Rattle.lua_meaning.specs.declared.fault.Fault.TheVariants as F
 use Rattle.lua_meaning.specs.Run.{Run, Store, World}
@@ -23,9 +24,9 @@ use Rattle.script_run.specs.declared.script.ProgramEnd.TheVariants as E
 use Rattle.script_run.specs.Opening.{with_libraries, with_function, main_function}
 use Rattle.script_run.specs.Running.{RunsProgram, ends, ending}
 
-pub both_opened : (s s1 s2 : Shown) → s1 ≡ opened_base s → s2 ≡ opened_math s1 → s2 ≡ with_libraries s
+pub both_opened : (s s1 : Shown) → s1 ≡ opened_libs (BASE + MATH) s → s1 ≡ with_libraries s
 unfolding with_libraries
-both_opened s s1 s2 e d = d ∙ ap opened_math e
+both_opened s s1 e = e
 
 -- ---- a host, by what contracts see of it
 

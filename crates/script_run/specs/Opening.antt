@@ -1,10 +1,11 @@
 -- The memory in which a script begins.
-use Rattle.std.specs.Prelude.{◌≡◌, ◌++◌, ◌∷◌, [], ℕ, length}
+use Rattle.std.specs.Prelude.{◌≡◌, ◌+◌, ◌++◌, ◌∷◌, [], ℕ, length}
 use Rattle.lanes_arena.specs.declared.code.Code.TheVariants as code
 use Rattle.object_store.specs.declared.state.Function.{Function}
 use Rattle.object_store.specs.Heap.{Heap, Shown, opening_heap}
 use Rattle.object_store.specs.Event.{event_names}
-use Rattle.base_lib.specs.Open.{opened_base, opened_math}
+use Rattle.base_lib.specs.declared.open.TheConstants.{BASE, MATH}
+use Rattle.base_lib.specs.Open.{opened_libs}
 use Rattle.lua_meaning.specs.Run.{Store}
 
 -- the function of a script's main body
@@ -16,9 +17,9 @@ with_function heap f = record heap { functions = heap.functions ++ f ∷ [] }
 
 -- base and then math are opened
 unfoldable pub with_libraries : Shown → Shown
-with_libraries s = opened_math (opened_base s)
+with_libraries s = opened_libs (BASE + MATH) s
 
--- A new state in which base and then math were opened, and then the function of the main body was
+-- A new state in which base and math were opened, and then the function of the main body was
 -- made, which has this number.
 pub record IsOpening (store : Store) (main : ℕ) : Type 0 where
   pub new : Shown

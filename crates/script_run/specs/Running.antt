@@ -5,7 +5,7 @@ use Rattle.object_store.specs.declared.value.Value.{Value}
 use Rattle.object_store.specs.declared.value.Value.TheVariants as V
 use Rattle.object_store.specs.Kind.{name_of_kind, kind_of}
 use Rattle.lua_ops.specs.Metamethods.{Texts}
-use Rattle.linda_core.specs.SequentialLinda.{Content}
+use Rattle.linda_core.specs.declared.content.Content.{Content}
 use Rattle.base_lib.specs.Shown.{shown}
 use Rattle.lua_meaning.specs.declared.fault.Fault.{Fault}
 use Rattle.lua_meaning.specs.declared.fault.Fault.TheVariants as F

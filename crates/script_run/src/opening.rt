@@ -3,7 +3,7 @@ ghost use Rattle.std.specs.Prelude.{◌≡◌, length, IfOk, OnOk};
 ghost use Rattle.lua_machine.specs.Does.{store_of};
 ghost use Rattle.script_run.specs.Opening.{IsOpening, main_function, with_function, with_libraries};
 
-use base_lib::{open_base, open_math};
+use base_lib::{BASE, MATH, open_libs};
 use lanes_arena::{Code, Row};
 use object_store::{FuncId, Function, State};
 use std::alloc::{AllocError, Global};
@@ -22,15 +22,10 @@ pub fn opened(alloc: Global) -> Result<(State, FuncId), AllocError>
 fn open_libraries(alloc: Global, state: &mut State) -> Result<(), AllocError>
     ensures { OnOk result (state.new ≡ with_libraries state.old) }
 {
-    match open_base(state) {
-        Ok(()) => {}
-        Err(_) => return Err(AllocError),
+    match open_libs(alloc, state, BASE + MATH) {
+        Ok(()) => Ok(()),
+        Err(_) => Err(AllocError),
     }
-    match open_math(alloc, state) {
-        Ok(()) => {}
-        Err(_) => return Err(AllocError),
-    }
-    Ok(())
 }
 
 fn add_main(alloc: Global, state: &mut State) -> Result<FuncId, AllocError>

@@ -1,7 +1,7 @@
 use Rattle.std.proofs.Common.{codes}
 use Rattle.lua_machine.proofs.Leads.{leads_on}
 use Rattle.lua_machine.proofs.Failures.{raise_leads}
-use Rattle.evaluator.proofs.Levels.{above_level, last_level}
+use Rattle.lua_machine.proofs.Levels.{above_level, last_level}
 use Rattle.evaluator.proofs.knot.+levels.Goals as goal
 
 pub expr_at-returns-then-level-eq0 : goal.expr_at-returns-then-level-eq0

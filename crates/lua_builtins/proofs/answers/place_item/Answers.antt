@@ -1,11 +1,9 @@
-use Rattle.std.proofs.Common.{refl, rules}
-use Rattle.std.specs.Prelude.{FitsSigned}
-use Rattle.std.proofs.lemmas.Int.{to_z-of_z}
-use mir.Syntax.{w64}
-use Rattle.lua_meaning.specs.Run.{here}
+use Rattle.std.proofs.Common.{subst}
+use Rattle.lanes_lib.specs.Face.{root_piece}
+use Rattle.lua_meaning.specs.Library as spec
+use Rattle.lua_machine.specs.Does.{OneOf, world}
 use Rattle.lua_builtins.proofs.answers.place_item.Goals as goal
 
-pub returns-in-Int : goal.returns-in-Int
-returns-in-Int g c = λ l.
-    let fits : FitsSigned w64 c.in-Int.number = search rules in
-    rw (c.in-Int.is, to_z-of_z w64 c.in-Int.number fits) record { leads = λ k. here; stack = refl }
+pub returns-in-Some : goal.returns-in-Some
+returns-in-Some g c = λ l.
+    subst (λ r. OneOf g.H.Host.asked (spec.place_piece c.args.p.now l c.args.site (root_piece r) (world c.args.m.now)) c.args.m.now c.place_root.result c.place_root.new.m) c.in-Some.ensures (c.place_root.ensures l)

@@ -1,23 +1,23 @@
-use Rattle.std.proofs.Common.{ap, sym, ◌∙◌}
-use Rattle.lua_meaning.specs.Operate.{on_index}
+use Rattle.std.proofs.Common.{refl, ap, sym, ◌∙◌, Ok}
+use Rattle.object_store.specs.Value.{is_nil}
+use Rattle.lua_ops.specs.declared.step.Step.TheVariants as step
+use Rattle.lua_meaning.specs.Run.{here}
 use Rattle.lua_meaning.specs.Levels.{level}
+use Rattle.lua_meaning.specs.Operate.{index, on_index}
 use Rattle.lua_machine.specs.Does.{world}
 use Rattle.lua_machine.proofs.Leads.{from}
-use Rattle.lua_machine.proofs.Failures.{fault_leads}
+use Rattle.lua_operands.proofs.Raws.{raw_indexed}
 use Rattle.lua_operands.proofs.fields.index.Goals as goal
 
-pub returns-in-Ok : goal.returns-in-Ok
-returns-in-Ok g c =
+pub returns-then-not-is_nil : goal.returns-then-not-is_nil
+returns-then-not-is_nil g c =
     let a = c.args in
+    let m = a.m.now in
+    let l = level a.p.now a.b.now.level in
+    let live = ap is_nil (sym c.raw_index-value.ensures) ∙ sym c.is_nil.ensures ∙ c.if-not-is_nil.true in
     record {
-      leads = λ k. from (ap (λ s. on_index a.p.now (level a.p.now a.b.now.level) a.line a.from a.m.now.value s (world a.m.now) k) (sym c.index.ensures ∙ c.in-Ok.is)) (c.index_step.ensures.leads k);
-      stack = c.index_step.ensures.stack;
-    }
-
-pub returns-in-Err : goal.returns-in-Err
-returns-in-Err g c =
-    let a = c.args in
-    record {
-      leads = λ k. from (ap (λ s. on_index a.p.now (level a.p.now a.b.now.level) a.line a.from a.m.now.value s (world a.m.now) k) (sym c.index.ensures ∙ c.in-Err.is)) (fault_leads a.m.now c.fault_at.new.self k a.p.now a.line c.in-Err.fault c.fault_at.ensures);
-      stack = tt;
+      leads = λ k. from (ap (λ o. index a.p.now l a.line a.from o m.value (world m) k) c.in-Table.is
+          ∙ ap (λ s. on_index a.p.now l a.line a.from m.value s (world m) k) (raw_indexed m.state.heap c.in-Table.id m.value live)
+          ∙ ap (λ v. k (Ok v) (world m)) (sym c.raw_index-value.ensures)) here;
+      stack = refl;
     }

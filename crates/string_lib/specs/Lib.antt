@@ -1,0 +1,5 @@
+pub mod Given
+pub mod Several
+pub mod String
+pub mod Texts
+pub mod View
