@@ -5,3 +5,7 @@ pub mod maker;
 #[cfg(test)]
 mod packs;
 pub mod shared;
+#[cfg(test)]
+mod tests;
+#[cfg(test)]
+mod wanted;

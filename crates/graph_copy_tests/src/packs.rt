@@ -1,139 +1,172 @@
 //! What packing gives, with ample memory.
+ghost use Rattle.object_store.specs.Closed.{IsClosed};
+
 use crate::maker::{cell, function, put, put_named, set_meta, table};
-use crate::shared::read_twice;
-use graph_copy::{CopyFault, pack};
-use lanes_arena::{Code, Mark};
+use crate::wanted::{is_refused_so, is_right, marks_wanted};
+use graph_copy::pack;
+use lanes_arena::Code;
 use metatable_ids::Marks;
 use object_store::{State, Value};
-use parcel::{Leaf, Node, Parcel};
 use std::alloc::Global;
 
-/// Whether a leaf is this text.
-fn is_text(leaf: &Leaf, text: &[u8]) -> bool {
-    match leaf {
-        Leaf::Text(bytes) => bytes.as_slice() == text,
-        _ => false,
+/// A value that is packed, twice as a root, from a state of number 0.
+#[derive(Clone, Copy, PartialEq, Eq)]
+pub enum Case {
+    /// A table that has itself at `x`.
+    Circle,
+    /// A table that is its own metatable and has itself at `__index`.
+    Class,
+    /// Two functions that share a cell, in a table with a dead pair.
+    SharedCell,
+    /// A table that two fields of another reach.
+    Diamond,
+    /// A table as the key of another.
+    TableAsKey,
+    /// Values that are no objects, and two equal texts.
+    Leaves,
+    /// A lane handle in a table that has a metatable.
+    LaneHandle,
+}
+
+pub const CASES: &[Case] = &[
+    Case::Circle,
+    Case::Class,
+    Case::SharedCell,
+    Case::Diamond,
+    Case::TableAsKey,
+    Case::Leaves,
+    Case::LaneHandle,
+];
+
+fn made(root: Value, done: bool) -> Option<Value> {
+    if done { Some(root) } else { None }
+}
+
+fn circle(alloc: Global, state: &mut State) -> Option<Value>
+    requires { IsClosed state.old }
+    ensures { IsClosed state.new }
+{
+    let t = table(alloc, state)?;
+    let done = put_named(state, t, b"x", Value::Table(t));
+    made(Value::Table(t), done)
+}
+
+fn class(alloc: Global, state: &mut State) -> Option<Value>
+    requires { IsClosed state.old }
+    ensures { IsClosed state.new }
+{
+    let _other = table(alloc, state)?;
+    let c = table(alloc, state)?;
+    let done = put_named(state, c, b"__index", Value::Table(c)) && set_meta(state, c, c);
+    made(Value::Table(c), done)
+}
+
+fn shared_cell(alloc: Global, state: &mut State) -> Option<Value>
+    requires { IsClosed state.old }
+    ensures { IsClosed state.new }
+{
+    let t = table(alloc, state)?;
+    let variable = cell(state, Value::Int(-1))?;
+    let f = function(alloc, state, Code::Script(4), variable)?;
+    let g = function(alloc, state, Code::Walker, variable)?;
+    let done = put(state, t, Value::Int(1), Value::Func(g))
+        && put(state, t, Value::Int(2), Value::True)
+        && put(state, t, Value::Int(2), Value::Nil)
+        && put(state, t, Value::Func(f), Value::Int(i64::MIN));
+    made(Value::Table(t), done)
+}
+
+fn diamond(alloc: Global, state: &mut State) -> Option<Value>
+    requires { IsClosed state.old }
+    ensures { IsClosed state.new }
+{
+    let t = table(alloc, state)?;
+    let shared = table(alloc, state)?;
+    let done = put_named(state, t, b"left", Value::Table(shared))
+        && put_named(state, t, b"right", Value::Table(shared));
+    made(Value::Table(t), done)
+}
+
+fn table_as_key(alloc: Global, state: &mut State) -> Option<Value>
+    requires { IsClosed state.old }
+    ensures { IsClosed state.new }
+{
+    let t = table(alloc, state)?;
+    let key = table(alloc, state)?;
+    let done = put(state, t, Value::Table(key), Value::False);
+    made(Value::Table(t), done)
+}
+
+fn leaves(alloc: Global, state: &mut State) -> Option<Value>
+    requires { IsClosed state.old }
+    ensures { IsClosed state.new }
+{
+    let t = table(alloc, state)?;
+    let Ok(text) = state.intern(b"") else {
+        return None;
+    };
+    let done = put(state, t, Value::Int(i64::MAX), text)
+        && put(state, t, text, Value::True)
+        && put(state, t, Value::False, Value::Linda(9));
+    made(Value::Table(t), done)
+}
+
+fn lane_handle(alloc: Global, state: &mut State) -> Option<Value>
+    requires { IsClosed state.old }
+    ensures { IsClosed state.new }
+{
+    let t = table(alloc, state)?;
+    let meta = table(alloc, state)?;
+    let done = set_meta(state, t, meta) && put(state, t, Value::Int(1), Value::Lane(5));
+    made(Value::Table(t), done)
+}
+
+fn value_of(alloc: Global, state: &mut State, case: Case) -> Option<Value>
+    requires { IsClosed state.old }
+    ensures { IsClosed state.new }
+{
+    match case {
+        Case::Circle => circle(alloc, state),
+        Case::Class => class(alloc, state),
+        Case::SharedCell => shared_cell(alloc, state),
+        Case::Diamond => diamond(alloc, state),
+        Case::TableAsKey => table_as_key(alloc, state),
+        Case::Leaves => leaves(alloc, state),
+        Case::LaneHandle => lane_handle(alloc, state),
     }
 }
 
-/// A table that has itself at `x` is one node, twice a root, without a mark.
-fn circle(alloc: Global) -> Option<bool> {
-    let mut state = State::new(alloc, 0).ok()?;
-    let t = table(alloc, &mut state)?;
-    let done = put_named(&mut state, t, b"x", Value::Table(t));
-    let mut marks = Marks::new(alloc, 0);
-    let roots = [Value::Table(t), Value::Table(t)];
-    let parcel = pack(alloc, &state, &mut marks, &roots).ok()?;
-    let [Leaf::Node(0), Leaf::Node(0)] = parcel.roots.as_slice() else {
-        return Some(false);
-    };
-    let [Node::Table { pairs, meta, mark }] = parcel.nodes.as_slice() else {
-        return Some(false);
-    };
-    let [(key, value)] = pairs.as_slice() else {
-        return Some(false);
-    };
-    Some(
-        done && is_text(key, b"x")
-            && matches!(value, Leaf::Node(0))
-            && meta.is_none()
-            && mark.is_none()
-            && marks.count() == 0,
-    )
-}
-
-/// A table that is its own metatable is one node, and gets the mark of its state.
-fn class(alloc: Global) -> Option<bool> {
-    let mut state = State::new(alloc, 0).ok()?;
-    let _other = table(alloc, &mut state)?;
-    let c = table(alloc, &mut state)?;
-    let named = put_named(&mut state, c, b"__index", Value::Table(c));
-    let given = set_meta(&mut state, c, c);
-    let mut marks = Marks::new(alloc, 0);
-    let parcel = pack(alloc, &state, &mut marks, &[Value::Table(c)]).ok()?;
-    let [Node::Table { pairs, meta, mark }] = parcel.nodes.as_slice() else {
-        return Some(false);
-    };
-    let [(key, value)] = pairs.as_slice() else {
-        return Some(false);
-    };
-    Some(
-        named
-            && given
-            && is_text(key, b"__index")
-            && matches!(value, Leaf::Node(0))
-            && *meta == Some(0)
-            && *mark == Some(Mark { state: 0, table: 2 })
-            && marks.count() == 1,
-    )
-}
-
-/// Two functions share a cell that holds the first of them; a dead pair is left out.
-fn shared_cell(alloc: Global) -> Option<bool> {
-    let mut state = State::new(alloc, 3).ok()?;
-    let t = table(alloc, &mut state)?;
-    let variable = cell(&mut state, Value::Int(-1))?;
-    let f = function(alloc, &mut state, Code::Script(4), variable)?;
-    let g = function(alloc, &mut state, Code::Walker, variable)?;
-    let set = put(&mut state, t, Value::Int(1), Value::Func(g))
-        && put(&mut state, t, Value::Int(2), Value::True)
-        && put(&mut state, t, Value::Int(2), Value::Nil)
-        && put(&mut state, t, Value::Func(f), Value::Int(i64::MIN));
-    let mut marks = Marks::new(alloc, 3);
-    let parcel = pack(alloc, &state, &mut marks, &[Value::Table(t)]).ok()?;
-    let [Node::Table { pairs, .. }, first, second, content] = parcel.nodes.as_slice() else {
-        return Some(false);
-    };
-    let [(one, Leaf::Node(1)), (Leaf::Node(2), least)] = pairs.as_slice() else {
-        return Some(false);
-    };
-    Some(
-        set && matches!(one, Leaf::Int(1))
-            && matches!(least, Leaf::Int(i64::MIN))
-            && is_function(first, Code::Walker, 3)
-            && is_function(second, Code::Script(4), 3)
-            && matches!(
-                content,
-                Node::Cell {
-                    content: Leaf::Int(-1)
-                }
-            ),
-    )
-}
-
-/// Whether a node is a function with one cell.
-fn is_function(node: &Node, wanted: Code, cell: u32) -> bool {
-    match node {
-        Node::Function { code, cells } => *code == wanted && cells.as_slice() == [cell].as_slice(),
-        _ => false,
+/// Whether the value is packed as is wanted of the case.
+fn is_packed(alloc: Global, state: &State, marks: &mut Marks, root: Value, case: Case) -> bool
+    requires { IsClosed state.now }
+{
+    match pack(alloc, state, marks, &[root, root]) {
+        Ok(parcel) => is_right(&parcel, case),
+        Err(fault) => is_refused_so(fault, case),
     }
 }
 
-/// A lane handle is refused, and no mark is kept.
-fn lane_handle(alloc: Global) -> Option<bool> {
-    let mut state = State::new(alloc, 0).ok()?;
-    let t = table(alloc, &mut state)?;
-    let meta = table(alloc, &mut state)?;
-    let done = set_meta(&mut state, t, meta) && put(&mut state, t, Value::Int(1), Value::Lane(5));
+/// And whether so many marks are known afterwards as are wanted.
+fn is_marked(alloc: Global, state: &State, root: Value, case: Case) -> bool
+    requires { IsClosed state.now }
+{
     let mut marks = Marks::new(alloc, 0);
-    let refused = match pack(alloc, &state, &mut marks, &[Value::Table(t)]) {
-        Err(CopyFault::LaneHandle) => true,
-        _ => false,
-    };
-    Some(done && refused && marks.count() == 0)
+    is_packed(alloc, state, &mut marks, root, case) && marks.count() == marks_wanted(case)
 }
 
-#[test]
-fn graphs_are_packed(rt: HostRuntime) {
-    assert!(rt; circle(rt.alloc()) == Some(true));
-    assert!(rt; class(rt.alloc()) == Some(true));
-    assert!(rt; shared_cell(rt.alloc()) == Some(true));
-    assert!(rt; lane_handle(rt.alloc()) == Some(true));
+fn packs_in(alloc: Global, state: &mut State, case: Case) -> bool
+    requires { IsClosed state.old }
+{
+    match value_of(alloc, state, case) {
+        Some(root) => is_marked(alloc, state, root, case),
+        None => false,
+    }
 }
 
-#[test]
-fn threads_read_one_parcel(rt: HostRuntime) {
-    let parcel = Parcel::of_leaf(rt.alloc(), Leaf::Int(7)).expect(&rt, "there is memory");
-    let read = read_twice(&rt, rt.alloc(), parcel).expect(&rt, "there is memory");
-    assert!(rt; read == ((0, 1), (0, 1)));
+/// Whether packing does what is wanted of the case.
+pub fn packs_so(alloc: Global, case: Case) -> bool {
+    match State::new(alloc, 0) {
+        Ok(mut state) => packs_in(alloc, &mut state, case),
+        Err(_) => false,
+    }
 }
